@@ -1,0 +1,5 @@
+pub mod Book
+pub mod Calls
+pub mod Refusals
+pub mod Statuses
+pub mod View
