@@ -1,16 +1,13 @@
 // Adding to a row, and booking at a place of a lent table.
 ghost use mathlib.Core.Path.{_≡_};
-ghost use mathlib.Core.Bool.{cond, _&&_};
-ghost use mathlib.Core.List.{[]};
 ghost use Prim.Native.Nat.{_<_, _≤_, _^_};
-ghost use lib.Dec.{ltb};
 ghost use lib.IntN.{natAbs, pos, _+ℤ_};
-ghost use lib.ListN.{length, getD, set, replicate};
+ghost use lib.ListN.{replicate};
 ghost use Rattle.std.specs.Options.{Cases};
 ghost use Rattle.std.specs.Results.{isOk};
 ghost use Rattle.std.specs.Vec.{made, refused};
 ghost use Rattle.amounts.specs.Rows.{within, sums};
-ghost use Rattle.amounts.specs.Tables.{rows-of};
+ghost use Rattle.amounts.specs.Tables.{Booked, rows-of};
 
 use crate::row::Charges;
 use crate::row::Fault;
@@ -38,9 +35,7 @@ impl<const N: usize, const LIMIT: u64> Row<N, LIMIT> {
 
 // Adds more at a place of a lent table; a refused booking writes nothing.
 pub fn book<const N: usize, const LIMIT: u64>(table: &mut [Row<N, LIMIT>], at: usize, more: &[i64; N]) -> Result<(), Fault<LIMIT>>
-    ensures test { λ r. ⌜ isOk r ≡ (ltb at (length (now (table .entry))) && within LIMIT (sums (getD (rows-of N LIMIT (now (table .entry))) at []) (now (more .entry)))) ⌝ }
-    ensures after { λ r. ⌜ rows-of N LIMIT (now (table .exit)) ≡ cond (isOk r) (set (rows-of N LIMIT (now (table .entry))) at (sums (getD (rows-of N LIMIT (now (table .entry))) at []) (now (more .entry)))) (rows-of N LIMIT (now (table .entry))) ⌝ }
-    ensures refused { λ r. ⌜ refused r (λ e. e ≡ cond (ltb at (length (now (table .entry)))) Fault.PastLimit Fault.NoPlace) ⌝ }
+    ensures { λ r. ⌜ Booked LIMIT (rows-of N LIMIT (now (table .entry))) at (now (more .entry)) r (rows-of N LIMIT (now (table .exit))) ⌝ }
 {
     if at >= table.len() {
         return Err(Fault::NoPlace);

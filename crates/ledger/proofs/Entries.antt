@@ -1,16 +1,21 @@
 -- The book's terms, read off the three tables beside one another: their number, one of them, one written, one more.
 use mathlib.Core.Path.{_≡_, refl, sym, ap, _∙_}
-use mathlib.Core.Bool.{Bool, _||_}
+use mathlib.Core.Bool.{Bool, true, false, _||_}
+use mathlib.Core.Logic.{_⊎_, inl, inr}
 use mathlib.Core.List.{List, [], _∷_, _++_}
-use Prim.Native.Nat.{ℕ, zero, suc, _<_}
+use Prim.Native.Nat.{ℕ, zero, suc, _+_, _-_, _≤_, _<_}
 use native.Mathlib.Nat.{le-of-suc-le-suc, not-suc-le-zero, suc-inj}
 use native.Mathlib.Omega.{arith}
-use lib.IntN.{ℤ}
+use lib.Dec.{eqb, ltb}
+use lib.IntN.{ℤ, pos, _+ℤ_}
 use lib.ListN.{length, getD, set}
 use Rattle.std.specs.Of.Vec.{vec-items, vec-len}
 use Rattle.std.proofs.shelf.Lists.{length-map, map-push}
-use Rattle.amounts.specs.Tables.{rows-of}
-use Rattle.ledger.specs.Book.{Term, some-of, shares}
+use Rattle.std.proofs.shelf.Tests.{or-left, or-right, or-from, eq-eqb, ne-eqb, lt-ltb, le-ltb}
+use Rattle.amounts.specs.Rows.{sums}
+use Rattle.amounts.specs.Tables.{rows-of, grown}
+use Rattle.amounts.specs.declared.row.Row.{Row}
+use Rattle.ledger.specs.Book.{Term, no-term, missing, term-at, some-of, shares}
 use Rattle.ledger.specs.View.{Gas, Charges, entry, entries, view, clashes}
 use Rattle.ledger.specs.declared.term.Term.{Term as Contract}
 use Rattle.ledger.specs.declared.tables.Tables.{Tables}
@@ -71,3 +76,36 @@ pub view-push : (t : Tables) (ts : List Contract) (gs : List Gas) (ls : List Cha
 view-push t ts gs ls c g l x y z =
     rw (x, y, z) (rw (map-push (λ (r : Gas). r .figures) (vec-items (t .gas)) g, map-push (λ (r : Charges). r .figures) (vec-items (t .lines)) l)
     (entries-push (vec-items (t .terms)) _ _ c (g .figures) (l .figures) (gas-level t) (lines-level t)))
+
+-- a term's number is its place and one more
+
+pub number-lacks : (t : Tables) (n : ℕ) → (n < 1) ⊎ (vec-len (t .terms) < n) → missing (view t) n ≡ true
+number-lacks t n (inl h) = or-left (eqb n 0) (ltb (length (view t .terms)) n) (eq-eqb n 0 (omega arith))
+number-lacks t n (inr h) = or-right (eqb n 0) (ltb (length (view t .terms)) n) (lt-ltb (length (view t .terms)) n (omega (arith, term-count t)))
+
+pub number-holds : (t : Tables) (n : ℕ) → 1 ≤ n → n ≤ vec-len (t .terms) → missing (view t) n ≡ false
+number-holds t n h k = or-from (eqb n 0) (ltb (length (view t .terms)) n) (ne-eqb n 0 (λ e. omega arith)) (le-ltb (length (view t .terms)) n (omega (arith, term-count t)))
+
+pub read-at : (t : Tables) (n i : ℕ) (c : Contract) → i + 1 ≡ n → i < vec-len (t .terms) → c ≡ getD (vec-items (t .terms)) i c → term-at (view t) n ≡ entry c (getD (rows-of 1 200000000 (vec-items (t .gas))) i []) (getD (rows-of 5 100000000000000 (vec-items (t .lines))) i [])
+read-at t n i c e h r =
+    let k : n - 1 ≡ i = omega arith in
+    ap (λ j. getD (view t .terms) j no-term) k
+        ∙ entries-at (vec-items (t .terms)) _ _ i no-term c (omega (arith, t .terms .ok .0)) (gas-level t) (lines-level t)
+        ∙ ap (λ x. entry x (getD (rows-of 1 200000000 (vec-items (t .gas))) i []) (getD (rows-of 5 100000000000000 (vec-items (t .lines))) i [])) (sym r)
+
+-- a row of one number is its number
+pub one-figure : (xs : List ℤ) → length xs ≡ 1 → getD xs 0 (pos 0) ∷ [] ≡ xs
+one-figure [] e = absurd (omega (arith, e))
+one-figure (x ∷ []) e = refl
+one-figure (x ∷ (y ∷ xs)) e = absurd (omega (arith, e))
+
+pub row-long : (n limit : ℕ) (table : List (Row n limit)) (i : ℕ) → i < length table → length (getD (rows-of n limit table) i []) ≡ n
+row-long n limit [] i h = absurd (not-suc-le-zero h)
+row-long n limit (r ∷ rs) zero h = r .long
+row-long n limit (r ∷ rs) (suc i) h = row-long n limit rs i (le-of-suc-le-suc h)
+
+-- a term's row of gas with more added is its balance with more added
+pub gas-grown : (t : Tables) (i : ℕ) (d : ℤ) → i < vec-len (t .terms) → grown (rows-of 1 200000000 (vec-items (t .gas))) i (d ∷ []) ≡ (getD (getD (rows-of 1 200000000 (vec-items (t .gas))) i []) 0 (pos 0) +ℤ d) ∷ []
+gas-grown t i d h =
+    let row = getD (rows-of 1 200000000 (vec-items (t .gas))) i [] in
+    ap (λ xs. sums xs (d ∷ [])) (sym (one-figure row (row-long 1 200000000 (vec-items (t .gas)) i (omega (arith, t .gas .ok .0, t .level)))))

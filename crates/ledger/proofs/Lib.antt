@@ -1,3 +1,5 @@
 pub mod Entries
 pub mod Orders
+pub mod Posts
 pub mod Searches
+pub mod States

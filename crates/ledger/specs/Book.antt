@@ -5,10 +5,11 @@ use Prim.Native.Nat.{ℕ, _+_, _-_}
 use lib.Dec.{eqb, leb, ltb}
 use lib.IntN.{ℤ, pos}
 use lib.ListN.{length, getD, replicate}
+use Rattle.ledger.specs.declared.allowances.Allowances.{Allowances}
 use Rattle.prices.specs.declared.point.Point.{Point}
 use Rattle.prices.specs.declared.point.Point.the-variants.{Western}
-use Rattle.ledger.specs.declared.status.Status.{Status}
-use Rattle.ledger.specs.declared.status.Status.the-variants.{Waiting, Active, Expired}
+use Rattle.calls.specs.declared.status.Status.{Status}
+use Rattle.calls.specs.declared.status.Status.the-variants.{Waiting, Active, Expired}
 
 -- A term: its pool and point, the daily contracted volume (MDV), its first and last day, the next day that is
 -- to be posted, the balance (delivered less consumed) and the five charge lines.
@@ -25,11 +26,11 @@ pub record Term : Type 0 where
 -- The day, the suspension allowances of the three points, and the terms in the order of their numbers, from 1.
 pub record State : Type 0 where
   pub day : ℕ
-  pub allowances : List ℕ
+  pub allowances : Allowances
   pub terms : List Term
 
 -- A new book stands at day 1 and has no terms.
-abbrev pub new-book : List ℕ → State
+abbrev pub new-book : Allowances → State
 new-book allowances = record { day = 1; allowances = allowances; terms = [] }
 
 -- the state with other terms

@@ -11,17 +11,20 @@ use Rattle.std.specs.Results.{isErr}
 use Rattle.std.specs.declared.result.Result.{Result}
 use Rattle.std.specs.declared.result.Result.the-variants.{Ok, Err}
 use Rattle.amounts.specs.Rows.{within, sums}
+use Rattle.balancing.specs.Bands.{Band}
 use Rattle.prices.specs.Points.{point-at}
 use Rattle.prices.specs.Quotes.{Quote}
+use Rattle.prices.specs.declared.point.Point.{Point}
 use Rattle.prices.specs.declared.point.Point.the-variants.{Western}
 use Rattle.prices.specs.declared.source.Lack.{Lack}
 use Rattle.ledger.specs.Book.{State, Term, with-terms, opened, missing, term-at, some-of, shares, status-of, on-offer}
-use Rattle.ledger.specs.declared.call.Call.{Call}
-use Rattle.ledger.specs.declared.call.Call.the-variants.{Day, Open, Post, Statement}
-use Rattle.ledger.specs.declared.call.Answer.{Answer}
-use Rattle.ledger.specs.declared.call.Answer.the-variants.{Done, Stated, Refused}
-use Rattle.ledger.specs.declared.refusal.Refusal.{Refusal}
-use Rattle.ledger.specs.declared.refusal.Refusal.the-variants.{LastDay, NoTerm, WrongStatus, OutOfRange, Full, Overlap, Untimely, GasLimit, ChargeLimit, Lacking}
+use Rattle.calls.specs.declared.call.Call.{Call}
+use Rattle.calls.specs.declared.call.Call.the-variants.{Day, Open, Post, Statement}
+use Rattle.calls.specs.declared.call.Answer.{Answer}
+use Rattle.calls.specs.declared.call.Answer.the-variants.{Done, Stated, Refused}
+use Rattle.calls.specs.declared.call.Stated.{Stated as Statement-of}
+use Rattle.calls.specs.declared.refusal.Refusal.{Refusal}
+use Rattle.calls.specs.declared.refusal.Refusal.the-variants.{LastDay, NoTerm, WrongStatus, OutOfRange, Full, Overlap, Untimely, GasLimit, ChargeLimit, Lacking}
 
 -- What a call answers, and the state after it.
 pub record Outcome : Type 0 where
@@ -37,6 +40,10 @@ pub record Meets (o : Outcome) (a : Answer) (s : State) : Type 0 where
 abbrev pub answered : Result ℕ Refusal → Answer
 answered (Ok n) = Done n
 answered (Err e) = Refused e
+
+abbrev pub stated : Result Statement-of Refusal → Answer
+stated (Ok s) = Stated s
+stated (Err e) = Refused e
 
 -- The first condition that holds is the refusal, and it changes nothing; where none holds, the call is done.
 abbrev pub first-of : State → List (Bool × Refusal) → Outcome → Outcome
@@ -80,9 +87,12 @@ priced volume (Ok price) = Ok (volume * price)
 priced volume (Err lack) = Err lack
 
 -- What is short of the MDV is overrun, at that day's overrun price; where nothing is short no price is sought.
+abbrev pub overrun-owed : Quote → Point → ℕ → ℕ → ℕ → Result ℕ Lack
+overrun-owed overrun point mdv day delivered =
+    cond (leb mdv delivered) (Ok 0) (priced (mdv - delivered) (overrun point day day))
+
 abbrev pub owed : Quote → Term → ℕ → Result ℕ Lack
-owed overrun t delivered =
-    cond (leb (t .mdv) delivered) (Ok 0) (priced (t .mdv - delivered) (overrun (t .point) (t .next) (t .next)))
+owed overrun t delivered = overrun-owed overrun (t .point) (t .mdv) (t .next) delivered
 
 abbrev pub micros : Result ℕ Lack → ℕ
 micros (Ok m) = m
@@ -145,9 +155,16 @@ statement-call s n =
       after = s;
     })
 
+-- What a rule and three price sources mean.
+pub record Meaning : Type 0 where
+  pub band : ℕ → ℕ → Band
+  pub overrun : Quote
+  pub shortage : Quote
+  pub excess : Quote
+
 -- The book's step: a call is one row.
-abbrev pub step : Quote → State → Call → Outcome
-step overrun s Day = day-call s
-step overrun s (Open pool point mdv first last) = open-call s pool point mdv first last
-step overrun s (Post term delivered consumed) = post-call overrun s term delivered consumed
-step overrun s (Statement term) = statement-call s term
+abbrev pub step : Meaning → State → Call → Outcome
+step m s Day = day-call s
+step m s (Open pool point mdv first last) = open-call s pool point mdv first last
+step m s (Post term delivered consumed) = post-call (m .overrun) s term delivered consumed
+step m s (Statement term) = statement-call s term

@@ -1,5 +1,6 @@
 pub mod Book
 pub mod Calls
-pub mod Refusals
-pub mod Statuses
+pub mod Making
+pub mod Meanings
+pub mod Plans
 pub mod View

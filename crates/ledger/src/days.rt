@@ -2,7 +2,7 @@
 ghost use Rattle.ledger.specs.Calls.{Meets, day-call, answered};
 ghost use Rattle.ledger.specs.View.{view};
 
-use crate::refusal::Refusal;
+use calls::Refusal;
 use crate::tables::Tables;
 
 impl Tables {

@@ -1,17 +1,23 @@
 // The ledger of banked gas accounts: its tables, its calls, and in specs/ the plain book that they keep.
-mod call;
+mod allowances;
+mod apply;
+mod booking;
+mod books;
 mod days;
+mod failing;
+mod making;
 mod opening;
-mod refusal;
-mod status;
+mod post;
+mod posting;
+mod pricing;
+mod stating;
 mod tables;
 mod term;
+mod zone;
 
-pub use call::Answer;
-pub use call::Call;
-pub use call::Stated;
-pub use refusal::Refusal;
-pub use refusal::Rule;
-pub use status::Status;
+pub use allowances::Allowances;
+pub use books::Ledger;
+pub use failing::NotMade;
 pub use tables::Tables;
 pub use term::Term;
+pub use zone::Zone;

@@ -16,7 +16,7 @@ ghost use Rattle.amounts.specs.Rows.{within};
 
 use amounts::Charges;
 use amounts::Gas;
-use crate::refusal::Refusal;
+use calls::Refusal;
 use crate::tables::Tables;
 use crate::term::Term;
 use prices::Point;

@@ -5,12 +5,13 @@ ghost use Rattle.std.specs.Of.Vec.{vec-len, vec-cap};
 
 use amounts::Charges;
 use amounts::Gas;
+use crate::allowances::Allowances;
 use crate::term::Term;
 
 #[derive(Drop)]
 pub struct Tables {
     pub day: u32,
-    pub allowances: [u32; 3],
+    pub allowances: Allowances,
     pub terms: Vec<Term>,
     pub gas: Vec<Gas>,
     pub lines: Vec<Charges>,

@@ -6,7 +6,7 @@ use lib.ListN.{length}
 use Rattle.std.proofs.shelf.Tests.{not-from-true, le-leb, lt-leb}
 use Rattle.ledger.specs.Book.{some-of, with-terms}
 use Rattle.ledger.specs.View.{view, entry}
-use Rattle.ledger.specs.declared.call.Answer.the-variants.{Done}
+use Rattle.calls.specs.declared.call.Answer.the-variants.{Done}
 use Rattle.ledger.proofs.Entries.{term-count, view-some}
 use Rattle.ledger.proofs.Orders.{refuses, passes}
 use Rattle.ledger.proofs.tables.Tables.open.Needs as need

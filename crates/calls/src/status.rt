@@ -1,6 +1,6 @@
 // A term's status.
 ghost use mathlib.Core.Path.{_≡_};
-ghost use Rattle.ledger.specs.Statuses.{status-number};
+ghost use Rattle.calls.specs.Statuses.{status-number};
 
 #[derive(Clone, Copy)]
 pub enum Status {

@@ -1,7 +1,7 @@
 -- The numbers of a term's statuses.
 use Prim.Native.Nat.{ℕ}
-use Rattle.ledger.specs.declared.status.Status.{Status}
-use Rattle.ledger.specs.declared.status.Status.the-variants.{Waiting, Active, Expired}
+use Rattle.calls.specs.declared.status.Status.{Status}
+use Rattle.calls.specs.declared.status.Status.the-variants.{Waiting, Active, Expired}
 
 abbrev pub status-number : Status → ℕ
 status-number Waiting = 0

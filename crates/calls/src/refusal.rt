@@ -1,8 +1,8 @@
 // The refusals: each with its number and its rule's sentence, in one table.
 ghost use mathlib.Core.Path.{_≡_};
-ghost use Rattle.ledger.specs.Refusals.{number-of, lacking-day};
-ghost use Rattle.ledger.specs.declared.refusal.Refusal.the-variants.{Lacking};
-ghost use Rattle.ledger.specs.Refusals.{gas-refusal, charge-refusal};
+ghost use Rattle.calls.specs.Refusals.{number-of, lacking-day};
+ghost use Rattle.calls.specs.declared.refusal.Refusal.the-variants.{Lacking};
+ghost use Rattle.calls.specs.Refusals.{gas-refusal, charge-refusal};
 
 use amounts::CHARGE_LIMIT;
 use amounts::Fault;

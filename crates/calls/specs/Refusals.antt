@@ -2,8 +2,8 @@
 use Prim.Native.Nat.{ℕ}
 use Rattle.amounts.specs.declared.row.Fault.{Fault}
 use Rattle.amounts.specs.declared.row.Fault.the-variants.{NoPlace, PastLimit}
-use Rattle.ledger.specs.declared.refusal.Refusal.{Refusal}
-use Rattle.ledger.specs.declared.refusal.Refusal.the-variants.{BadWord, LastDay, NoTerm, WrongStatus, OutOfRange, Full, Overlap, Untimely, GasLimit, ChargeLimit, Lacking, NoRoom}
+use Rattle.calls.specs.declared.refusal.Refusal.{Refusal}
+use Rattle.calls.specs.declared.refusal.Refusal.the-variants.{BadWord, LastDay, NoTerm, WrongStatus, OutOfRange, Full, Overlap, Untimely, GasLimit, ChargeLimit, Lacking, NoRoom}
 
 abbrev pub number-of : Refusal → ℕ
 number-of BadWord = 1
