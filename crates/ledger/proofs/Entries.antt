@@ -109,3 +109,18 @@ pub gas-grown : (t : Tables) (i : ℕ) (d : ℤ) → i < vec-len (t .terms) → 
 gas-grown t i d h =
     let row = getD (rows-of 1 200000000 (vec-items (t .gas))) i [] in
     ap (λ xs. sums xs (d ∷ [])) (sym (one-figure row (row-long 1 200000000 (vec-items (t .gas)) i (omega (arith, t .gas .ok .0, t .level)))))
+
+-- a term that is there has five lines
+entries-lines : (ts : List Contract) (gs ls : List (List ℤ)) (i : ℕ) (d : Term) → i < length ts → length gs ≡ length ts → length ls ≡ length ts → getD (entries ts gs ls) i d .lines ≡ getD ls i []
+entries-lines [] gs ls i d h g l = absurd (not-suc-le-zero h)
+entries-lines (c ∷ ts) [] ls i d h g l = absurd (omega (arith, g))
+entries-lines (c ∷ ts) (x ∷ gs) [] i d h g l = absurd (omega (arith, l))
+entries-lines (c ∷ ts) (x ∷ gs) (y ∷ ls) zero d h g l = refl
+entries-lines (c ∷ ts) (x ∷ gs) (y ∷ ls) (suc i) d h g l = entries-lines ts gs ls i d (le-of-suc-le-suc h) (suc-inj g) (suc-inj l)
+
+pub lines-five : (t : Tables) (n i : ℕ) → i + 1 ≡ n → i < vec-len (t .terms) → length (term-at (view t) n .lines) ≡ 5
+lines-five t n i e h =
+    let k : n - 1 ≡ i = omega arith in
+    ap (λ j. length (getD (view t .terms) j no-term .lines)) k
+        ∙ ap length (entries-lines (vec-items (t .terms)) _ _ i no-term (omega (arith, t .terms .ok .0)) (gas-level t) (lines-level t))
+        ∙ row-long 5 100000000000000 (vec-items (t .lines)) i (omega (arith, t .lines .ok .0, t .beside))

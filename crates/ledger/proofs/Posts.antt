@@ -106,8 +106,8 @@ module _ (t : Tables) (p : Posting) (m : ℕ) (r : Ready t p) where
   pub gas-never-refused : {T : Type 0} (e : Fault 200000000) (gs : List (List ℤ)) → Booked {T = T} 200000000 (rows-of 1 200000000 (vec-items (t .gas))) (p .at) (p .net ∷ []) (Err e) gs → ⊥
   gas-never-refused e gs b = true≢false (sym (r .fits) ∙ booked-err _ _ _ _ _ gas-inside e b .1)
 
-  pub post-done : {T : Type 0} (x y : T) (c : Contract) (gs ls : List (List ℤ)) → ((gas lines : List ℤ) (balance : ℤ) (after : List ℤ) → entry c (balance ∷ []) after ≡ posted (entry (p .term) gas lines) balance after) → Booked {T = T} 100000000000000 (rows-of 5 100000000000000 (vec-items (t .lines))) (p .at) (overrun-line m) (Ok x) ls → Booked {T = T} 200000000 (rows-of 1 200000000 (vec-items (t .gas))) (p .at) (p .net ∷ []) (Ok y) gs → Meets (charging t p m) (Done (p .term .next)) (with-terms (view t) (entries (set (vec-items (t .terms)) (p .at) c) gs ls))
-  post-done x y c gs ls k b g =
+  pub books : {T : Type 0} (x y : T) (c : Contract) (gs ls : List (List ℤ)) → ((gas lines : List ℤ) (balance : ℤ) (after : List ℤ) → entry c (balance ∷ []) after ≡ posted (entry (p .term) gas lines) balance after) → Booked {T = T} 100000000000000 (rows-of 5 100000000000000 (vec-items (t .lines))) (p .at) (overrun-line m) (Ok x) ls → Booked {T = T} 200000000 (rows-of 1 200000000 (vec-items (t .gas))) (p .at) (p .net ∷ []) (Ok y) gs → Meets (charging t p m) (Done (p .term .next)) (with-terms (view t) (entries (set (vec-items (t .terms)) (p .at) c) gs ls))
+  books x y c gs ls k b g =
       let f = booked-ok _ _ _ _ _ lines-inside x b in
       passes _ _ _ _ _ (not-from-true _ (f .0)) (record {
         answers = refl;

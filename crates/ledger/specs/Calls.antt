@@ -51,12 +51,17 @@ first-of s [] done = done
 first-of s (r ∷ rs) done = cond (r .0) (record { answer = Refused (r .1); after = s }) (first-of s rs done)
 
 -- day: turns to the next day and answers it.
+abbrev pub day-refusals : State → List (Bool × Refusal)
+day-refusals s =
+    (leb 3653 (s .day), LastDay)
+    ∷ []
+
+abbrev pub day-done : State → Outcome
+day-done s =
+    record { answer = Done (s .day + 1); after = record { day = s .day + 1; allowances = s .allowances; terms = s .terms } }
+
 abbrev pub day-call : State → Outcome
-day-call s =
-    first-of s
-    ( (leb 3653 (s .day), LastDay)
-    ∷ [])
-    (record { answer = Done (s .day + 1); after = record { day = s .day + 1; allowances = s .allowances; terms = s .terms } })
+day-call s = first-of s (day-refusals s) (day-done s)
 
 -- A term's figures are in range: a pool of 1 to 99,999, a point of 1 to 3, an MDV of 1 to 500,000, 1 to 366 days
 -- of which the last is at most 3,400, and a first day that is not before today.
@@ -69,17 +74,22 @@ in-range today pool point mdv first last =
     && (ltb last (first + 366) && leb last 3400))))
 
 -- open: adds a term and answers its number.
-abbrev pub open-call : State → ℕ → ℕ → ℕ → ℕ → ℕ → Outcome
-open-call s pool point mdv first last =
-    first-of s
-    ( (not (in-range (s .day) pool point mdv first last), OutOfRange)
+abbrev pub open-refusals : State → ℕ → ℕ → ℕ → ℕ → ℕ → List (Bool × Refusal)
+open-refusals s pool point mdv first last =
+    (not (in-range (s .day) pool point mdv first last), OutOfRange)
     ∷ (some-of (shares pool first last) (s .terms), Overlap)
     ∷ (leb 64 (length (s .terms)), Full)
-    ∷ [])
-    (record {
+    ∷ []
+
+abbrev pub open-done : State → ℕ → ℕ → ℕ → ℕ → ℕ → Outcome
+open-done s pool point mdv first last =
+    record {
       answer = Done (length (s .terms) + 1);
       after = with-terms s (s .terms ++ opened pool (valueOr (point-at point) Western) mdv first last ∷ []);
-    })
+    }
+
+abbrev pub open-call : State → ℕ → ℕ → ℕ → ℕ → ℕ → Outcome
+open-call s pool point mdv first last = first-of s (open-refusals s pool point mdv first last) (open-done s pool point mdv first last)
 
 -- the volume at a price
 abbrev pub priced : ℕ → Result ℕ Lack → Result ℕ Lack
@@ -117,32 +127,41 @@ posted t balance lines =
     record { pool = t .pool; point = t .point; mdv = t .mdv; first = t .first; last = t .last; next = t .next + 1; balance = balance; lines = lines }
 
 -- post: books the term's next unposted day and answers it.
-abbrev pub post-call : Quote → State → ℕ → ℕ → ℕ → Outcome
-post-call overrun s n delivered consumed =
+abbrev pub post-refusals : Quote → State → ℕ → ℕ → ℕ → List (Bool × Refusal)
+post-refusals overrun s n delivered consumed =
     let t = term-at s n in
     let o = owed overrun t delivered in
-    first-of s
-    ( (missing s n, NoTerm)
+    (missing s n, NoTerm)
     ∷ (ltb (t .last) (t .next), WrongStatus)
     ∷ (ltb 10000000 delivered || ltb 10000000 consumed, OutOfRange)
     ∷ (leb (s .day) (t .next), Untimely)
     ∷ (not (within 200000000 (banked t delivered consumed ∷ [])), GasLimit)
     ∷ (isErr o, Lacking (lack-in o))
     ∷ (not (within 100000000000000 (charged t (micros o))), ChargeLimit)
-    ∷ [])
-    (record {
+    ∷ []
+
+abbrev pub post-done : Quote → State → ℕ → ℕ → ℕ → Outcome
+post-done overrun s n delivered consumed =
+    let t = term-at s n in
+    let o = owed overrun t delivered in
+    record {
       answer = Done (t .next);
       after = with-terms s (set (s .terms) (n - 1) (posted t (banked t delivered consumed) (charged t (micros o))));
-    })
+    }
+
+abbrev pub post-call : Quote → State → ℕ → ℕ → ℕ → Outcome
+post-call overrun s n delivered consumed = first-of s (post-refusals overrun s n delivered consumed) (post-done overrun s n delivered consumed)
 
 -- statement: states the term's number, pool, status, next unposted day, balance, gas on offer and lines.
-abbrev pub statement-call : State → ℕ → Outcome
-statement-call s n =
+abbrev pub statement-refusals : State → ℕ → List (Bool × Refusal)
+statement-refusals s n =
+    (missing s n, NoTerm)
+    ∷ []
+
+abbrev pub statement-done : State → ℕ → Outcome
+statement-done s n =
     let t = term-at s n in
-    first-of s
-    ( (missing s n, NoTerm)
-    ∷ [])
-    (record {
+    record {
       answer = Stated (record {
         term = n;
         pool = t .pool;
@@ -153,7 +172,10 @@ statement-call s n =
         lines = t .lines;
       });
       after = s;
-    })
+    }
+
+abbrev pub statement-call : State → ℕ → Outcome
+statement-call s n = first-of s (statement-refusals s n) (statement-done s n)
 
 -- What a rule and three price sources mean.
 pub record Meaning : Type 0 where

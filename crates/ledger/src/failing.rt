@@ -1,8 +1,10 @@
 // Why a ledger was not made.
 ghost use mathlib.Core.Path.{_≡_};
-ghost use Rattle.ledger.specs.declared.failing.NotMade.the-variants.{NoMemory};
+ghost use Rattle.calls.specs.declared.refusal.Refusal.the-variants.{OutOfRange};
+ghost use Rattle.ledger.specs.declared.failing.NotMade.the-variants.{Refused, NoMemory};
 
 use calls::Refusal;
+use prices::OutOfRange;
 use std::alloc::AllocError;
 
 #[derive(Clone, Copy)]
@@ -16,5 +18,13 @@ pub impl From<AllocError> for NotMade as NotMadeFromAlloc {
 
     fn from(_e: AllocError) -> NotMade {
         NotMade::NoMemory
+    }
+}
+
+pub impl From<OutOfRange> for NotMade as NotMadeFromRange {
+    ghost converts = { λ _ r. r ≡ Refused OutOfRange };
+
+    fn from(_e: OutOfRange) -> NotMade {
+        NotMade::Refused(Refusal::OutOfRange)
     }
 }

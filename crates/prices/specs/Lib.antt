@@ -1,3 +1,11 @@
 pub mod Days
+pub mod Ends
+pub mod Laws
+pub mod Layers
+pub mod Means
+pub mod Over
 pub mod Points
 pub mod Quotes
+pub mod Sources
+pub mod Totals
+pub mod Worked

@@ -5,7 +5,6 @@ ghost use lib.Dec.{leb};
 ghost use Rattle.std.specs.Results.{isOk};
 ghost use Rattle.std.specs.Vec.{made};
 ghost use Rattle.std.specs.declared.result.Result.the-variants.{Ok};
-
 use crate::point::Point;
 use crate::source::Lack;
 use crate::source::PriceSource;

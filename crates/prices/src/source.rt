@@ -3,7 +3,6 @@ ghost use mathlib.Core.Path.{_≡_};
 ghost use Prim.Native.Nat.{ℕ, _≤_};
 ghost use Rattle.prices.specs.Quotes.{Quote, Fair};
 ghost use Rattle.prices.specs.declared.point.Point.{Point};
-
 use crate::point::Point;
 use crate::span::Span;
 

@@ -5,7 +5,7 @@ use mir.Syntax.{w64}
 use borrow.Author.Needs.{needs}
 use Rattle.std.proofs.shelf.Results.{err-from-errBy}
 use Rattle.std.proofs.shelf.Signed.{toZ-ofZ}
-use Rattle.ledger.proofs.Posts.{charge-refused, gas-never-refused, post-done}
+use Rattle.ledger.proofs.Posts.{charge-refused, gas-never-refused, books}
 use Rattle.ledger.proofs.tables.Tables.book_post.Needs as need
 
 pub returns-in-Break-enter : need.returns-in-Break-enter
@@ -23,4 +23,4 @@ pub returns : need.returns
 returns c =
     let b = rw (c .overrun .ensures) at (c .in-Continue-enter .ensures tt .booked) in
     let g = simp (toZ-ofZ w64 (c .args .posting .net) (search needs)) at (c .in-Continue-enter-2 .ensures tt .booked) in
-    post-done (c .args .self .now) (c .args .posting) (c .args .owed) (c .pre .ready) _ _ (c .posted .result) _ _ (c .posted .ensures) b g
+    books (c .args .self .now) (c .args .posting) (c .args .owed) (c .pre .ready) _ _ (c .posted .result) _ _ (c .posted .ensures) b g

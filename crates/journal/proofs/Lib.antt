@@ -1,0 +1,4 @@
+pub mod Lengths
+pub mod Loops
+pub mod Near
+pub mod Steps

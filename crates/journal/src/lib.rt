@@ -1,0 +1,9 @@
+// Running a journal: words are read, calls are made, and their answers are written.
+mod answers;
+mod ran;
+mod running;
+mod stop;
+
+pub use ran::Ran;
+pub use running::run;
+pub use stop::Stop;

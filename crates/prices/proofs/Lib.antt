@@ -1,0 +1,5 @@
+pub mod Entries
+pub mod Means
+pub mod Passes
+pub mod Standing
+pub mod Worked
