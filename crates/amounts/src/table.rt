@@ -8,7 +8,6 @@ ghost use Rattle.std.specs.Results.{isOk};
 ghost use Rattle.std.specs.Vec.{made, refused};
 ghost use Rattle.amounts.specs.Rows.{within, sums};
 ghost use Rattle.amounts.specs.Tables.{Booked, rows-of};
-
 use crate::row::Charges;
 use crate::row::Fault;
 use crate::row::Gas;
@@ -34,7 +33,11 @@ impl<const N: usize, const LIMIT: u64> Row<N, LIMIT> {
 }
 
 // Adds more at a place of a lent table; a refused booking writes nothing.
-pub fn book<const N: usize, const LIMIT: u64>(table: &mut [Row<N, LIMIT>], at: usize, more: &[i64; N]) -> Result<(), Fault<LIMIT>>
+pub fn book<const N: usize, const LIMIT: u64>(
+    table: &mut [Row<N, LIMIT>],
+    at: usize,
+    more: &[i64; N],
+) -> Result<(), Fault<LIMIT>>
     ensures { λ r. ⌜ Booked LIMIT (rows-of N LIMIT (now (table .entry))) at (now (more .entry)) r (rows-of N LIMIT (now (table .exit))) ⌝ }
 {
     if at >= table.len() {
@@ -55,7 +58,6 @@ fn added(have: i64, more: i64, limit: u64) -> Option<i64>
     }
     Some(sum)
 }
-
 
 impl Gas {
     pub fn none() -> Gas

@@ -23,10 +23,10 @@ pub word-more : (ws bs : List ℕ) (i w : ℕ) → 4 * i + 4 ≤ length bs → w
 word-more ws bs i w h inv e =
     let k : 4 * (i + 1) ≡ 4 * i + 4 = omega arith in
     append-assoc ws (w ∷ []) (words-of (drop (4 * (i + 1)) bs))
-        ∙ ap (λ x. ws ++ x ∷ words-of (drop (4 * (i + 1)) bs)) e
-        ∙ ap (λ j. ws ++ little (getD bs (4 * i) 0) (getD bs (4 * i + 1) 0) (getD bs (4 * i + 2) 0) (getD bs (4 * i + 3) 0) ∷ words-of (drop j bs)) k
-        ∙ ap (λ x. ws ++ x) (sym (word-at (4 * i) bs h))
-        ∙ inv
+    ∙ ap (λ x. ws ++ x ∷ words-of (drop (4 * (i + 1)) bs)) e
+    ∙ ap (λ j. ws ++ little (getD bs (4 * i) 0) (getD bs (4 * i + 1) 0) (getD bs (4 * i + 2) 0) (getD bs (4 * i + 3) 0) ∷ words-of (drop j bs)) k
+    ∙ ap (λ x. ws ++ x) (sym (word-at (4 * i) bs h))
+    ∙ inv
 
 -- fewer than four bytes
 pub word-none : (bs : List ℕ) → length bs ≡ 0 → words-of bs ≡ []

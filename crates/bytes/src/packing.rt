@@ -5,7 +5,6 @@ ghost use lib.ListN.{length, getD};
 ghost use Rattle.std.specs.Of.Vec.{vec-items};
 ghost use Rattle.std.specs.Vec.{made};
 ghost use Rattle.bytes.specs.Packing.{little, words-of, packed, four};
-
 use std::alloc::AllocError;
 use std::alloc::Global;
 
@@ -37,7 +36,12 @@ pub fn words_in(heap: Global, bytes: &[u8]) -> Result<Vec<u32>, AllocError>
 fn four(word: u32) -> [u8; 4]
     ensures { λ r. ⌜ r ≡ four word ⌝ }
 {
-    [(word % 256) as u8, (word / 256 % 256) as u8, (word / 65_536 % 256) as u8, (word / 16_777_216) as u8]
+    [
+        (word % 256) as u8,
+        (word / 256 % 256) as u8,
+        (word / 65_536 % 256) as u8,
+        (word / 16_777_216) as u8,
+    ]
 }
 
 // The words as bytes.

@@ -1,9 +1,8 @@
 // The refusals: each with its number and its rule's sentence, in one table.
 ghost use mathlib.Core.Path.{_≡_};
-ghost use Rattle.calls.specs.Refusals.{number-of, lacking-day};
+ghost use Rattle.calls.specs.Refusals.{number-of, lacking-day, refusal-at};
 ghost use Rattle.calls.specs.declared.refusal.Refusal.the-variants.{Lacking};
 ghost use Rattle.calls.specs.Refusals.{gas-refusal, charge-refusal};
-
 use amounts::CHARGE_LIMIT;
 use amounts::Fault;
 use amounts::GAS_LIMIT;
@@ -39,6 +38,27 @@ fn stated(number: u32, sentence: &'static str) -> Rule
 }
 
 impl Refusal {
+    // The refusal of a number, if there is one; the day is of use to a lacking price alone.
+    pub fn from_number(number: u32, day: u32) -> Option<Refusal>
+        ensures { λ r. ⌜ r ≡ refusal-at number day ⌝ }
+    {
+        match number {
+            1 => Some(Refusal::BadWord),
+            2 => Some(Refusal::LastDay),
+            3 => Some(Refusal::NoTerm),
+            4 => Some(Refusal::WrongStatus),
+            5 => Some(Refusal::OutOfRange),
+            6 => Some(Refusal::Full),
+            7 => Some(Refusal::Overlap),
+            8 => Some(Refusal::Untimely),
+            9 => Some(Refusal::GasLimit),
+            10 => Some(Refusal::ChargeLimit),
+            11 => Some(Refusal::Lacking(Lack { day })),
+            19 => Some(Refusal::NoRoom),
+            _ => None,
+        }
+    }
+
     pub fn rule(&self) -> Rule
         ensures { λ r. ⌜ r .number ≡ number-of (now (self .entry)) ⌝ }
     {

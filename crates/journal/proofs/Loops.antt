@@ -36,12 +36,12 @@ front-length answers a written h = length-append (take written answers) a ∙ ap
 pub front : (answers a : List ℕ) (written : ℕ) → written ≤ length answers → take (written + length a) (with-answer answers written a) ≡ take written answers ++ a
 front answers a written h =
     ap (take (written + length a)) (sym (append-assoc (take written answers) a (drop (written + length a) answers)))
-        ∙ take-at (take written answers ++ a) (drop (written + length a) answers) (written + length a) (front-length answers a written h)
+    ∙ take-at (take written answers ++ a) (drop (written + length a) answers) (written + length a) (front-length answers a written h)
 
 pub back : (answers a : List ℕ) (written : ℕ) → written ≤ length answers → drop (written + length a) (with-answer answers written a) ≡ drop (written + length a) answers
 back answers a written h =
     ap (drop (written + length a)) (sym (append-assoc (take written answers) a (drop (written + length a) answers)))
-        ∙ drop-at (take written answers ++ a) (drop (written + length a) answers) (written + length a) (front-length answers a written h)
+    ∙ drop-at (take written answers ++ a) (drop (written + length a) answers) (written + length a) (front-length answers a written h)
 
 module _ (m : Meaning) (words : List ℕ) (room : ℕ) (start : State) where
   pub begins : (answers : List ℕ) → So-far m words room start answers 0 0 start
@@ -55,11 +55,11 @@ module _ (m : Meaning) (words : List ℕ) (room : ℕ) (start : State) where
         let t = step m s (read .0) .after in
         let left : room - written - length a ≡ room - (written + length a) = omega arith in
         inv
-            ∙ ap (answering (take written answers)) (run-more m (drop place words) place (room - written) s read (simp length-drop (omega arith)) e some fits)
-            ∙ ap (λ (front : List ℕ). record { after = run-from m (drop (read .1) (drop place words)) (place + read .1) 0 (room - written - length a) t .after; words = front; stop = run-from m (drop (read .1) (drop place words)) (place + read .1) 0 (room - written - length a) t .stop }) (sym (append-assoc (take written answers) a _))
-            ∙ ap (λ (f : List ℕ). answering f (run-from m (drop (read .1) (drop place words)) (place + read .1) 0 (room - written - length a) t)) (sym (front answers a written k))
-            ∙ ap (λ (ws : List ℕ). answering (take (written + length a) (with-answer answers written a)) (run-from m ws (place + read .1) 0 (room - written - length a) t)) (drop-drop (read .1) place words)
-            ∙ ap (λ (n : ℕ). answering (take (written + length a) (with-answer answers written a)) (run-from m (drop (place + read .1) words) (place + read .1) 0 n t)) left
+        ∙ ap (answering (take written answers)) (run-more m (drop place words) place (room - written) s read (simp length-drop (omega arith)) e some fits)
+        ∙ ap (λ (front : List ℕ). record { after = run-from m (drop (read .1) (drop place words)) (place + read .1) 0 (room - written - length a) t .after; words = front; stop = run-from m (drop (read .1) (drop place words)) (place + read .1) 0 (room - written - length a) t .stop }) (sym (append-assoc (take written answers) a _))
+        ∙ ap (λ (f : List ℕ). answering f (run-from m (drop (read .1) (drop place words)) (place + read .1) 0 (room - written - length a) t)) (sym (front answers a written k))
+        ∙ ap (λ (ws : List ℕ). answering (take (written + length a) (with-answer answers written a)) (run-from m ws (place + read .1) 0 (room - written - length a) t)) (drop-drop (read .1) place words)
+        ∙ ap (λ (n : ℕ). answering (take (written + length a) (with-answer answers written a)) (run-from m (drop (place + read .1) words) (place + read .1) 0 n t)) left
 
     -- the same, by what reading, the call and the writing ensure
     pub step-on : (call : Call) (after len : ℕ) (answer : Answer) (t : State) (encoded before out : List ℕ) → place < length words → written ≤ length answers → drop written answers ≡ drop written before → Used words place call after → Meets (step m s call) answer t → take len encoded ≡ answer-words answer → len ≡ length (answer-words answer) → len ≤ room - written → out ≡ take written answers ++ (take len encoded ++ drop (written + len) answers) → So-far m words room start out (written + len) after t × (drop (written + len) out ≡ drop (written + len) before)
@@ -67,8 +67,8 @@ module _ (m : Meaning) (words : List ℕ) (room : ℕ) (start : State) where
         let a = answer-words (step m s call .answer) in
         let n : len ≡ length a = l ∙ ap (λ x. length (answer-words x)) (met .answers) in
         let p : out ≡ with-answer answers written a =
-            o ∙ ap (λ ws. take written answers ++ (ws ++ drop (written + len) answers)) (e ∙ ap answer-words (met .answers))
-                ∙ ap (λ x. take written answers ++ (a ++ drop (written + x) answers)) n in
+        o ∙ ap (λ ws. take written answers ++ (ws ++ drop (written + len) answers)) (e ∙ ap answer-words (met .answers))
+        ∙ ap (λ x. take written answers ++ (a ++ drop (written + x) answers)) n in
         let g = goes-on (call, u .used) h k (u .read) (u .some) (subst (λ x. x ≤ room - written) n fits) in (
           subst (λ x. So-far m words room start x (written + len) after t) (sym p)
               (subst (λ x. So-far m words room start (with-answer answers written a) (written + x) after t) (sym n)

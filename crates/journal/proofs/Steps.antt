@@ -35,8 +35,8 @@ module _ (m : Meaning) where
   past-call w ws place used room s h =
       let e : suc (used - 1) ≡ used = omega arith in
       skip-all ws (place + 1) (used - 1) room s
-          ∙ ap (λ p. run-from m (drop (used - 1) ws) p 0 room s) (omega arith)
-          ∙ ap (λ u. run-from m (drop u (w ∷ ws)) (place + used) 0 room s) e
+      ∙ ap (λ p. run-from m (drop (used - 1) ws) p 0 room s) (omega arith)
+      ∙ ap (λ u. run-from m (drop u (w ∷ ws)) (place + used) 0 room s) e
 
   -- reading stops at a word
   pub run-wrong : (ws : List ℕ) (place room : ℕ) (s : State) (at : ℕ) → 0 < length ws → read-call ws ≡ Err at → run-from m ws place 0 room s ≡ stopped s BadWord (place + at)

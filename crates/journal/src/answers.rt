@@ -6,7 +6,6 @@ ghost use lib.ListN.{length, take, drop};
 ghost use Rattle.ledger.specs.Calls.{Meaning, step, statement-call};
 ghost use Rattle.ledger.specs.View.{view};
 ghost use Rattle.words.specs.Writing.{answer-words};
-
 use calls::Call;
 use ledger::Tables;
 use words::Encoded;

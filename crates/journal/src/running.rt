@@ -6,13 +6,12 @@ ghost use Rattle.std.specs.Options.{Cases};
 ghost use Rattle.ledger.specs.Meanings.{meaning};
 ghost use Rattle.ledger.specs.View.{view};
 ghost use Rattle.journal.specs.Runs.{run, Runs};
-
-use balancing::BalancingRule;
-use calls::Refusal;
 use crate::answers::answer_len;
 use crate::answers::put;
 use crate::ran::Ran;
 use crate::stop::Stop;
+use balancing::BalancingRule;
+use calls::Refusal;
 use ledger::Ledger;
 use prices::PriceSource;
 use words::Reader;
@@ -29,7 +28,13 @@ pub fn run<B: BalancingRule, O: PriceSource, S: PriceSource, E: PriceSource>(
     ensures zone { λ _. ⌜ now (ledger .exit) .zone ≡ now (ledger .entry) .zone ⌝ }
 {
     if words.len() > 8192 {
-        return Ran { written: 0, stop: Some(Stop { refusal: Refusal::OutOfRange, place: 0 }) };
+        return Ran {
+            written: 0,
+            stop: Some(Stop {
+                refusal: Refusal::OutOfRange,
+                place: 0,
+            }),
+        };
     }
     let mut written = 0;
     let mut reader = Reader::new(words);
@@ -37,14 +42,29 @@ pub fn run<B: BalancingRule, O: PriceSource, S: PriceSource, E: PriceSource>(
         let place = reader.place;
         let call = match reader.call() {
             Ok(call) => call,
-            Err(place) => return Ran { written, stop: Some(Stop { refusal: Refusal::BadWord, place }) },
+            Err(place) => return Ran {
+                written,
+                stop: Some(Stop {
+                    refusal: Refusal::BadWord,
+                    place,
+                }),
+            },
         };
         if answers.len() - written < answer_len(&ledger.tables, &call) {
-            return Ran { written, stop: Some(Stop { refusal: Refusal::NoRoom, place }) };
+            return Ran {
+                written,
+                stop: Some(Stop {
+                    refusal: Refusal::NoRoom,
+                    place,
+                }),
+            };
         }
         let answer = encode(&ledger.apply(call));
         put(answers, written, &answer);
         written += answer.len;
     }
-    Ran { written, stop: None }
+    Ran {
+        written,
+        stop: None,
+    }
 }

@@ -90,8 +90,8 @@ pub read-at : (t : Tables) (n i : ℕ) (c : Contract) → i + 1 ≡ n → i < ve
 read-at t n i c e h r =
     let k : n - 1 ≡ i = omega arith in
     ap (λ j. getD (view t .terms) j no-term) k
-        ∙ entries-at (vec-items (t .terms)) _ _ i no-term c (omega (arith, t .terms .ok .0)) (gas-level t) (lines-level t)
-        ∙ ap (λ x. entry x (getD (rows-of 1 200000000 (vec-items (t .gas))) i []) (getD (rows-of 5 100000000000000 (vec-items (t .lines))) i [])) (sym r)
+    ∙ entries-at (vec-items (t .terms)) _ _ i no-term c (omega (arith, t .terms .ok .0)) (gas-level t) (lines-level t)
+    ∙ ap (λ x. entry x (getD (rows-of 1 200000000 (vec-items (t .gas))) i []) (getD (rows-of 5 100000000000000 (vec-items (t .lines))) i [])) (sym r)
 
 -- a row of one number is its number
 pub one-figure : (xs : List ℤ) → length xs ≡ 1 → getD xs 0 (pos 0) ∷ [] ≡ xs
@@ -122,5 +122,5 @@ pub lines-five : (t : Tables) (n i : ℕ) → i + 1 ≡ n → i < vec-len (t .te
 lines-five t n i e h =
     let k : n - 1 ≡ i = omega arith in
     ap (λ j. length (getD (view t .terms) j no-term .lines)) k
-        ∙ ap length (entries-lines (vec-items (t .terms)) _ _ i no-term (omega (arith, t .terms .ok .0)) (gas-level t) (lines-level t))
-        ∙ row-long 5 100000000000000 (vec-items (t .lines)) i (omega (arith, t .lines .ok .0, t .beside))
+    ∙ ap length (entries-lines (vec-items (t .terms)) _ _ i no-term (omega (arith, t .terms .ok .0)) (gas-level t) (lines-level t))
+    ∙ row-long 5 100000000000000 (vec-items (t .lines)) i (omega (arith, t .lines .ok .0, t .beside))

@@ -53,15 +53,15 @@ module _ (q : Quote) (s : State) (n delivered consumed : ℕ) where
 pub gas-tested : (t : Tables) (n i : ℕ) (c : Contract) (d : ℤ) (delivered consumed : ℕ) (b : Bool) → i + 1 ≡ n → i < vec-len (t .terms) → c ≡ getD (vec-items (t .terms)) i c → d ≡ pos delivered -ℤ pos consumed → within 200000000 (grown (rows-of 1 200000000 (vec-items (t .gas))) i (d ∷ [])) ≡ b → within 200000000 (banked (term-at (view t) n) delivered consumed ∷ []) ≡ b
 gas-tested t n i c d delivered consumed b e h r f w =
     ap (λ x. within 200000000 (banked x delivered consumed ∷ [])) (read-at t n i c e h r)
-        ∙ ap (λ z. within 200000000 ((getD (getD (rows-of 1 200000000 (vec-items (t .gas))) i []) 0 (pos 0) +ℤ z) ∷ [])) (sym f)
-        ∙ ap (within 200000000) (sym (gas-grown t i d h))
-        ∙ w
+    ∙ ap (λ z. within 200000000 ((getD (getD (rows-of 1 200000000 (vec-items (t .gas))) i []) 0 (pos 0) +ℤ z) ∷ [])) (sym f)
+    ∙ ap (within 200000000) (sym (gas-grown t i d h))
+    ∙ w
 
 -- The posting's part of the call that is left, over the term, its place, what was delivered and the balance.
 abbrev remainder : Quote → State → Term → ℕ → ℕ → ℤ → Outcome
 remainder q s t i d b =
     first-of s
-    ( (isErr (owed q t d), Lacking (lack-in (owed q t d)))
+    ((isErr (owed q t d), Lacking (lack-in (owed q t d)))
     ∷ (not (within 100000000000000 (charged t (micros (owed q t d)))), ChargeLimit)
     ∷ [])
     (record { answer = Done (t .next); after = with-terms s (set (s .terms) i (posted t b (charged t (micros (owed q t d))))) })
@@ -76,17 +76,17 @@ planned q t n d c p e h r f g found unposted volumes past fits =
     let s = view t in
     let here = entry (p .term) (gas-row t (p .at)) (lines-row t (p .at)) in
     skips _ _ _ found ∙ skips _ _ _ unposted ∙ skips _ _ _ volumes ∙ skips _ _ _ past ∙ skips _ _ _ fits
-        ∙ ap (λ x. remainder q s x (n - 1) d (banked x d c)) (read-at t n (p .at) (p .term) e h r)
-        ∙ ap (λ i. remainder q s here i d (banked here d c)) place
-        ∙ ap (λ z. remainder q s here (p .at) d (here .balance +ℤ z)) (sym g)
-        ∙ ap (λ v. remainder q s here (p .at) v (here .balance +ℤ p .net)) (sym f)
+    ∙ ap (λ x. remainder q s x (n - 1) d (banked x d c)) (read-at t n (p .at) (p .term) e h r)
+    ∙ ap (λ i. remainder q s here i d (banked here d c)) place
+    ∙ ap (λ z. remainder q s here (p .at) d (here .balance +ℤ z)) (sym g)
+    ∙ ap (λ v. remainder q s here (p .at) v (here .balance +ℤ p .net)) (sym f)
 
 -- the tables with a posting written
 pub view-posted : (t : Tables) (p : Posting) (m : ℕ) (c : Contract) (gs ls : List (List ℤ)) → p .at < vec-len (t .terms) → ((gas lines : List ℤ) (balance : ℤ) (after : List ℤ) → entry c (balance ∷ []) after ≡ posted (entry (p .term) gas lines) balance after) → gs ≡ set (rows-of 1 200000000 (vec-items (t .gas))) (p .at) (grown (rows-of 1 200000000 (vec-items (t .gas))) (p .at) (p .net ∷ [])) → ls ≡ set (rows-of 5 100000000000000 (vec-items (t .lines))) (p .at) (sums (lines-row t (p .at)) (overrun-line m)) → entries (set (vec-items (t .terms)) (p .at) c) gs ls ≡ set (view t .terms) (p .at) (booked-term t p m)
 view-posted t p m c gs ls h k x y =
     rw (x, y) (entries-set (vec-items (t .terms)) _ _ (p .at) c _ _
     ∙ ap (set (view t .terms) (p .at))
-      (ap (λ g. entry c g (sums (lines-row t (p .at)) (overrun-line m))) (gas-grown t (p .at) (p .net) h) ∙ k (gas-row t (p .at)) (lines-row t (p .at)) _ _))
+    (ap (λ g. entry c g (sums (lines-row t (p .at)) (overrun-line m))) (gas-grown t (p .at) (p .net) h) ∙ k (gas-row t (p .at)) (lines-row t (p .at)) _ _))
 
 -- the three ways of booking a posting, by what its two bookings tell
 module _ (t : Tables) (p : Posting) (m : ℕ) (r : Ready t p) where

@@ -48,7 +48,7 @@ booked-term t p m =
 abbrev pub charging : Tables → Posting → ℕ → Outcome
 charging t p m =
     first-of (view t)
-    ( (not (within 100000000000000 (sums (lines-row t (p .at)) (overrun-line m))), ChargeLimit)
+    ((not (within 100000000000000 (sums (lines-row t (p .at)) (overrun-line m))), ChargeLimit)
     ∷ [])
     (record { answer = Done (p .term .next); after = with-terms (view t) (set (view t .terms) (p .at) (booked-term t p m)) })
 

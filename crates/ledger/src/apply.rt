@@ -3,14 +3,13 @@ ghost use mathlib.Core.Path.{_≡_};
 ghost use Rattle.ledger.specs.Calls.{Meets, post-call, step, answered, stated};
 ghost use Rattle.ledger.specs.Meanings.{meaning};
 ghost use Rattle.ledger.specs.View.{view};
-
+use crate::books::Ledger;
 use balancing::BalancingRule;
 use calls::Answer;
 use calls::Call;
 use calls::Refusal;
 use calls::RefusalFromLack;
 use calls::Stated;
-use crate::books::Ledger;
 use prices::PriceSource;
 
 // A call's result as its answer.
@@ -50,8 +49,18 @@ impl<B: BalancingRule, O: PriceSource, S: PriceSource, E: PriceSource> Ledger<B,
     {
         match call {
             Call::Day => answer(self.tables.turn()),
-            Call::Open { pool, point, mdv, first, last } => answer(self.tables.open(pool, point, mdv, first, last)),
-            Call::Post { term, delivered, consumed } => answer(self.post(term, delivered, consumed)),
+            Call::Open {
+                pool,
+                point,
+                mdv,
+                first,
+                last,
+            } => answer(self.tables.open(pool, point, mdv, first, last)),
+            Call::Post {
+                term,
+                delivered,
+                consumed,
+            } => answer(self.post(term, delivered, consumed)),
             Call::Statement { term } => statement(self.tables.state(term)),
         }
     }

@@ -1,9 +1,8 @@
 // The call day.
 ghost use Rattle.ledger.specs.Calls.{Meets, day-call, answered};
 ghost use Rattle.ledger.specs.View.{view};
-
-use calls::Refusal;
 use crate::tables::Tables;
+use calls::Refusal;
 
 impl Tables {
     // Turns to the next day and answers it.

@@ -2,7 +2,6 @@
 ghost use mathlib.Core.Path.{_≡_};
 ghost use Rattle.calls.specs.declared.refusal.Refusal.the-variants.{OutOfRange};
 ghost use Rattle.ledger.specs.declared.failing.NotMade.the-variants.{Refused, NoMemory};
-
 use calls::Refusal;
 use prices::OutOfRange;
 use std::alloc::AllocError;

@@ -7,14 +7,13 @@ ghost use Rattle.ledger.specs.Book.{new-book};
 ghost use Rattle.ledger.specs.Making.{allowed, Unmade};
 ghost use Rattle.ledger.specs.View.{view};
 ghost use Rattle.ledger.specs.declared.failing.NotMade.the-variants.{NoMemory};
-
-use calls::Refusal;
 use crate::allowances::Allowances;
 use crate::books::Ledger;
 use crate::failing::NotMade;
 use crate::failing::NotMadeFromAlloc;
 use crate::tables::Tables;
 use crate::zone::Zone;
+use calls::Refusal;
 use std::alloc::AllocError;
 use std::alloc::Global;
 
@@ -46,7 +45,11 @@ impl Tables {
 
 impl<B: Drop, O: Drop, S: Drop, E: Drop> Ledger<B, O, S, E> {
     // A new ledger of a zone, with a suspension allowance for each point of at most 10,000,000 a day.
-    pub fn new(heap: Global, zone: Zone<B, O, S, E>, allowances: Allowances) -> Result<Ledger<B, O, S, E>, NotMade>
+    pub fn new(
+        heap: Global,
+        zone: Zone<B, O, S, E>,
+        allowances: Allowances,
+    ) -> Result<Ledger<B, O, S, E>, NotMade>
         ensures { λ r. ⌜ Cases r (λ l. (allowed allowances ≡ true) × (view (l .tables) ≡ new-book allowances) × (l .zone ≡ zone)) (Unmade allowances) ⌝ }
     {
         if !allowances.in_range() {

@@ -13,12 +13,11 @@ ghost use Rattle.ledger.specs.Book.{some-of, opened, with-terms};
 ghost use Rattle.ledger.specs.Calls.{Meets, open-call, answered, in-range};
 ghost use Rattle.ledger.specs.View.{view, entry, clashes};
 ghost use Rattle.amounts.specs.Rows.{within};
-
+use crate::tables::Tables;
+use crate::term::Term;
 use amounts::Charges;
 use amounts::Gas;
 use calls::Refusal;
-use crate::tables::Tables;
-use crate::term::Term;
 use prices::Point;
 
 impl Term {
@@ -35,7 +34,14 @@ impl Term {
         if first < today || first > last || last > 3400 || last - first >= 366 {
             return None;
         }
-        Some(Term { pool, point, mdv, first, last, next: first })
+        Some(Term {
+            pool,
+            point,
+            mdv,
+            first,
+            last,
+            next: first,
+        })
     }
 
     // A term of this pool that shares a day with the span.
@@ -60,7 +66,14 @@ fn overlaps(terms: &[Term], pool: u32, first: u32, last: u32) -> bool
 
 impl Tables {
     // Opens a term and answers its number.
-    pub fn open(&mut self, pool: u32, point: u32, mdv: u32, first: u32, last: u32) -> Result<u32, Refusal>
+    pub fn open(
+        &mut self,
+        pool: u32,
+        point: u32,
+        mdv: u32,
+        first: u32,
+        last: u32,
+    ) -> Result<u32, Refusal>
         ensures { λ r. ⌜ Meets (open-call (view (now (self .entry))) pool point mdv first last) (answered r) (view (now (self .exit))) ⌝ }
     {
         let Some(term) = Term::opened(self.day, pool, point, mdv, first, last) else {

@@ -16,14 +16,13 @@ ghost use Rattle.ledger.specs.View.{view, entry};
 ghost use Rattle.calls.specs.declared.call.Answer.{Answer};
 ghost use Rattle.calls.specs.declared.refusal.Refusal.the-variants.{NoTerm, GasLimit};
 ghost use mathlib.Core.Bool.{true, false};
-
 use crate::booking::enter;
 use crate::posting::Posting;
+use crate::tables::Tables;
+use crate::term::Term;
 use calls::Refusal;
 use calls::RefusalFromCharges;
 use calls::RefusalFromGas;
-use crate::tables::Tables;
-use crate::term::Term;
 
 // What a day adds to a balance.
 fn net_of(delivered: u32, consumed: u32) -> i64
@@ -79,7 +78,12 @@ impl Tables {
         }
         let net = net_of(delivered, consumed);
         self.test_gas(at, net)?;
-        Ok(Posting { at, term: row, delivered, net })
+        Ok(Posting {
+            at,
+            term: row,
+            delivered,
+            net,
+        })
     }
 
     // Books a posting: its charge line, then its gas, then its day, which it answers.

@@ -4,7 +4,6 @@ ghost use Prim.Native.Nat.{_<_, _≤_, _^_};
 ghost use Rattle.std.specs.Results.{Cases};
 ghost use Rattle.std.specs.Vec.{made};
 ghost use Rattle.ledger.specs.Plans.{due};
-
 use crate::posting::Posting;
 use prices::Lack;
 use prices::PriceSource;

@@ -3,12 +3,11 @@ ghost use mathlib.Core.Path.{_≡_};
 ghost use Rattle.ledger.specs.Book.{status-of, on-offer};
 ghost use Rattle.ledger.specs.Calls.{Meets, statement-call, stated};
 ghost use Rattle.ledger.specs.View.{view};
-
+use crate::tables::Tables;
+use crate::term::Term;
 use calls::Refusal;
 use calls::Stated;
 use calls::Status;
-use crate::tables::Tables;
-use crate::term::Term;
 
 impl Term {
     // Waiting before the first day, active through the last, expired after.

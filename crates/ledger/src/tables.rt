@@ -2,11 +2,10 @@
 ghost use mathlib.Core.Path.{_≡_};
 ghost use Prim.Native.Nat.{_≤_};
 ghost use Rattle.std.specs.Of.Vec.{vec-len, vec-cap};
-
-use amounts::Charges;
-use amounts::Gas;
 use crate::allowances::Allowances;
 use crate::term::Term;
+use amounts::Charges;
+use amounts::Gas;
 
 #[derive(Drop)]
 pub struct Tables {

@@ -1,6 +1,5 @@
 // A term: its contract, and how far it is posted. Its ranges are in its type.
 ghost use Prim.Native.Nat.{_≤_, _<_, _+_};
-
 use prices::Point;
 
 #[derive(Clone, Copy)]

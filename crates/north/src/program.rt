@@ -7,13 +7,12 @@ ghost use Rattle.std.specs.Options.{Cases};
 ghost use Rattle.std.specs.Vec.{made};
 ghost use Rattle.std.specs.declared.option.Option.the-variants.{Some};
 ghost use Rattle.north.specs.North.{no-price, priced-run, north-run, north-words, north-bytes, moved, stop-words};
-
+use crate::output::Output;
+use crate::price::price_of;
 use balancing::NorthBalancing;
 use bytes::bytes_of;
 use bytes::words_in;
 use calls::Refusal;
-use crate::output::Output;
-use crate::price::price_of;
 use journal::Stop;
 use journal::run;
 use ledger::NotMade;
@@ -30,7 +29,10 @@ fn behind_price(stop: Option<Stop>) -> Option<Stop>
     ensures { λ r. ⌜ r ≡ moved stop ⌝ }
 {
     match stop {
-        Some(stop) => Some(Stop { refusal: stop.refusal, place: stop.place + 1 }),
+        Some(stop) => Some(Stop {
+            refusal: stop.refusal,
+            place: stop.place + 1,
+        }),
         None => None,
     }
 }
@@ -43,7 +45,10 @@ fn run_priced(heap: Global, price: u32, journal: &[u32]) -> Result<Output, NotMa
     let mut answers = vec![in heap; 0; 8192]?;
     let ran = run(&mut ledger, journal, &mut answers);
     answers.truncate(ran.written);
-    Ok(Output { words: answers, stop: behind_price(ran.stop) })
+    Ok(Output {
+        words: answers,
+        stop: behind_price(ran.stop),
+    })
 }
 
 // Runs an input: a reference price, and then a journal.
@@ -63,14 +68,23 @@ pub fn run_words(heap: Global, input: &[u32]) -> Result<Output, NotMade>
 fn stopped(heap: Global) -> Output
     ensures { λ r. ⌜ (vec-items (r .words) ≡ no-price .words) × (r .stop ≡ no-price .stop) ⌝ }
 {
-    Output { words: Vec::new(heap), stop: Some(Stop { refusal: Refusal::BadWord, place: 0 }) }
+    Output {
+        words: Vec::new(heap),
+        stop: Some(Stop {
+            refusal: Refusal::BadWord,
+            place: 0,
+        }),
+    }
 }
 
 // A stop as words: refused with its number, and its place.
 fn words_of(stop: Stop) -> [u32; 2]
     ensures { λ r. ⌜ r ≡ stop-words (Some stop) ⌝ }
 {
-    [word(Kind::Refused, stop.refusal.rule().number), word(Kind::Number, (stop.place % 0x1000_0000) as u32)]
+    [
+        word(Kind::Refused, stop.refusal.rule().number),
+        word(Kind::Number, (stop.place % 0x1000_0000) as u32),
+    ]
 }
 
 // What is written for an input, in words.

@@ -1,4 +1,9 @@
+pub mod Answers
+pub mod Ends
+pub mod Journal
 pub mod Kinds
+pub mod Laws
+pub mod Lists
 pub mod Reading
 pub mod Shapes
 pub mod Writing

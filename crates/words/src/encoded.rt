@@ -3,16 +3,15 @@ ghost use mathlib.Core.Path.{_≡_};
 ghost use mathlib.Core.List.{[], _∷_, _++_};
 ghost use Prim.Native.Nat.{_≤_, _%_};
 ghost use lib.ListN.{length, take};
+ghost use Rattle.words.specs.Answers.{answer-count};
 ghost use Rattle.words.specs.Kinds.{word};
 ghost use Rattle.words.specs.Writing.{signed-word, part-word, line-words, lines-words, answer-words};
 ghost use Rattle.words.specs.declared.kind.Kind.the-variants.{Figure};
 ghost use Rattle.calls.specs.declared.call.Answer.the-variants.{Stated};
-
-use calls::Answer;
-use calls::Stated as Statement;
-
 use crate::kind::Kind;
 use crate::packed::word;
+use calls::Answer;
+use calls::Stated as Statement;
 
 // The first `len` of the words.
 #[derive(Clone, Copy)]
@@ -26,11 +25,16 @@ pub fn encode(answer: &Answer) -> Encoded
     ensures words { λ r. ⌜ take (r .len) (r .words) ≡ answer-words (now (answer .entry)) ⌝ }
     ensures len { λ r. ⌜ r .len ≡ length (answer-words (now (answer .entry))) ⌝ }
     ensures within { λ r. ⌜ r .len ≤ 18 ⌝ }
+    ensures count { λ r. ⌜ r .len ≡ answer-count (now (answer .entry)) ⌝ }
 {
     match answer {
         Answer::Done(value) => two(Kind::Done, *value, 0),
         Answer::Stated(stated) => statement(stated),
-        Answer::Refused(refusal) => two(Kind::Refused, refusal.rule().number, refusal.lacking_day()),
+        Answer::Refused(refusal) => two(
+            Kind::Refused,
+            refusal.rule().number,
+            refusal.lacking_day(),
+        ),
     }
 }
 
@@ -77,7 +81,10 @@ fn line_words(line: i64) -> (u32, u32)
     ensures { λ r. ⌜ r .0 ∷ r .1 ∷ [] ≡ line-words line ⌝ }
 {
     let size = line.unsigned_abs();
-    (part_word(line, size / 100_000_000), part_word(line, size % 100_000_000))
+    (
+        part_word(line, size / 100_000_000),
+        part_word(line, size % 100_000_000),
+    )
 }
 
 // A signed figure: 0 or more by one kind, below 0 by its size by another.

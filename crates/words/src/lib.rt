@@ -1,19 +1,37 @@
-// Journal words: calls as words and back, and answers as words.
+// Journal words: calls as words and back, and answers as words and back.
+mod decoded;
 mod encoded;
+mod fault;
 mod figures;
+mod journal;
 mod kind;
+mod laws;
 mod packed;
 mod reader;
 mod row;
 mod table;
+mod unread;
+mod writer;
+mod written;
 
 pub use encoded::Encoded;
 pub use encoded::encode;
+pub use fault::Unwritten;
 pub use figures::call_of;
 pub use figures::figures_of;
 pub use figures::number_of;
+pub use journal::UnreadFromRefused;
+pub use journal::read_answers;
+pub use journal::read_calls;
 pub use kind::Kind;
+pub use laws::answers_stand;
+pub use laws::calls_stand;
+pub use laws::journals_stand;
 pub use packed::word;
 pub use reader::Reader;
 pub use row::Figures;
 pub use table::shape;
+pub use unread::Unread;
+pub use writer::UnwrittenFromAlloc;
+pub use writer::write_call;
+pub use writer::write_calls;

@@ -2,7 +2,6 @@
 ghost use mathlib.Core.Path.{_≡_};
 ghost use lib.Dec.{eqb};
 ghost use Rattle.words.specs.Kinds.{kind-number, kind-in, value-in, word};
-
 use crate::kind::Kind;
 
 // The word of a kind and a value; of a value past 28 bits it holds the low 28.

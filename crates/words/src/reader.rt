@@ -6,9 +6,6 @@ ghost use lib.ListN.{length, take, drop};
 ghost use Rattle.std.specs.Results.{Cases};
 ghost use Rattle.std.specs.declared.result.Result.the-variants.{Ok};
 ghost use Rattle.words.specs.Reading.{read-figures, Used, Stopped, Read, Missed};
-
-use calls::Call;
-
 use crate::figures::call_of;
 use crate::kind::Kind;
 use crate::packed::is_of;
@@ -16,6 +13,7 @@ use crate::packed::value_of;
 use crate::row::Figures;
 use crate::table::MOST;
 use crate::table::shape;
+use calls::Call;
 
 // The words as they were handed in, and the place that is read next.
 #[derive(Clone, Copy)]
@@ -78,5 +76,8 @@ fn figures_at(kinds: &[Kind], words: &[u32], place: usize) -> Result<Figures, us
         }
         values[i] = value_of(words[at]);
     }
-    Ok(Figures { values, count: kinds.len() })
+    Ok(Figures {
+        values,
+        count: kinds.len(),
+    })
 }

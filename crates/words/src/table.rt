@@ -5,7 +5,6 @@ ghost use lib.ListN.{length};
 ghost use Rattle.std.specs.Options.{Cases};
 ghost use Rattle.std.specs.declared.option.Option.the-variants.{Some, None};
 ghost use Rattle.words.specs.Shapes.{shape-of};
-
 use crate::kind::Kind;
 
 // No call has more arguments than this.
@@ -20,7 +19,15 @@ pub fn shape(number: u32) -> Option<&'static [Kind]>
         // day
         1 => Some(&[]),
         // open: pool, point, maximum daily volume, first and last day
-        2 => Some(&[Kind::Number, Kind::Point, Kind::Volume, Kind::Day, Kind::Day]),
+        2 => Some(
+            &[
+                Kind::Number,
+                Kind::Point,
+                Kind::Volume,
+                Kind::Day,
+                Kind::Day,
+            ],
+        ),
         // post: term, delivered, consumed
         3 => Some(&[Kind::Number, Kind::Volume, Kind::Volume]),
         // statement: term

@@ -52,7 +52,7 @@ calls-again g c =
     let h : place < length words = omega (arith, leb-false _ _ (sym (c .calls-test .ensures tt)), ap length (inv .4)) in
     let used : Used words place (c .in-Ok .call) (c .call .last .self .place) = subst (λ ws. Used ws place (c .in-Ok .call) (c .call .last .self .place)) (inv .4) (c .in-Ok .ensures tt .read) in
     let met : Meets (step m s (c .in-Ok .call)) (c .apply .result) (view (c .apply .last .self .tables)) =
-        subst (λ z. Meets (step (meaning (g .B·BalancingRule .band) (g .O·PriceSource .quote) (g .S·PriceSource .quote) (g .E·PriceSource .quote) z) s (c .in-Ok .call)) (c .apply .result) (view (c .apply .last .self .tables))) (inv .3) (c .apply .ensures .call) in
+    subst (λ z. Meets (step (meaning (g .B·BalancingRule .band) (g .O·PriceSource .quote) (g .S·PriceSource .quote) (g .E·PriceSource .quote) z) s (c .in-Ok .call)) (c .apply .result) (view (c .apply .last .self .tables))) (inv .3) (c .apply .ensures .call) in
     let len = c .encode-answer .result .len in
     let n : len ≡ c .answer-len .result = c .encode-answer .ensures .len ∙ ap (λ x. length (answer-words x)) (met .answers) ∙ sym (c .answer-len .ensures m) in
     let fits : len ≤ length (c .args .answers .now) - c .calls .written = omega (arith, n, c .if-answers-written .left, c .calls .kept .answers) in

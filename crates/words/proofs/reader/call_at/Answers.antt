@@ -10,8 +10,9 @@ use Rattle.words.proofs.reader.call_at.Needs.{then-place-words·by·then-place
 pub returns-then-place-words : need.returns-then-place-words
 returns-then-place-words c =
     elim (c .then-place-words .came) [
-      then-place-words·by·then-place-words w ↦ stopped-missing _ _ (w .if-place-words .taken)
-    | then-place-words·by·else-place-words·then-not-is-of w ↦ stopped-kind _ _ (w .if-place-words .left) (sym (w .is-of .ensures) ∙ w .if-not-is-of .taken) ]
+      | then-place-words·by·then-place-words w ↦ stopped-missing _ _ (w .if-place-words .taken)
+      | then-place-words·by·else-place-words·then-not-is-of w ↦ stopped-kind _ _ (w .if-place-words .left) (sym (w .is-of .ensures) ∙ w .if-not-is-of .taken)
+    ]
 
 pub returns-in-rest : need.returns-in-rest
 returns-in-rest c = stopped-number (c .args .words .now) (c .args .place) (c .if-place-words .left) (sym (c .is-of .ensures) ∙ c .if-not-is-of .left) (c .value-of-number .result) (c .value-of-number .ensures) (c .in-rest .ensures tt .row)

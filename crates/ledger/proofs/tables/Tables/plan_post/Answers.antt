@@ -54,9 +54,9 @@ returns c =
     let fits = c .in-Continue-test-gas .ensures tt in (
       record { inside = at .1; row = c .index-row .ensures; unposted = c .if-row .left; fits = fits },
       λ q. planned q t (c .args .term) (c .args .delivered) (c .args .consumed) _ (at .0) (at .1) (c .index-row .ensures) refl net
-      (at .2)
-      (rw e (le-ltb _ _ (c .if-row .left)))
-      (or-from _ _ (le-ltb _ _ (c .if-delivered-gt10000000 .left)) (le-ltb _ _ (c .if-consumed-gt10000000 .left)))
-      (rw e (lt-leb _ _ (c .if-row-self .left)))
-      (not-from-true _ (gas-tested t (c .args .term) (c .in-Continue-at .at) (c .index-row .result .now) _ (c .args .delivered) (c .args .consumed) _ (at .0) (at .1) (c .index-row .ensures) net fits)),
+          (at .2)
+          (rw e (le-ltb _ _ (c .if-row .left)))
+          (or-from _ _ (le-ltb _ _ (c .if-delivered-gt10000000 .left)) (le-ltb _ _ (c .if-consumed-gt10000000 .left)))
+          (rw e (lt-leb _ _ (c .if-row-self .left)))
+          (not-from-true _ (gas-tested t (c .args .term) (c .in-Continue-at .at) (c .index-row .result .now) _ (c .args .delivered) (c .args .consumed) _ (at .0) (at .1) (c .index-row .ensures) net fits)),
     )

@@ -1,0 +1,3 @@
+// Tests of the journal words.
+#[cfg(test)]
+mod tests;
