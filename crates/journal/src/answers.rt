@@ -11,7 +11,7 @@ use ledger::Tables;
 use words::Encoded;
 
 // The words of the answer that a call will get.
-pub fn answer_len(tables: &Tables, call: &Call) -> usize
+pub(crate) fn answer_len(tables: &Tables, call: &Call) -> usize
     ensures { λ r. ⌜ ((m : Meaning) → r ≡ length (answer-words (step m (view (now (tables .entry))) (now (call .entry)) .answer))) ⌝ }
 {
     match call {
@@ -31,7 +31,7 @@ fn statement_len(tables: &Tables, term: u32) -> usize
 }
 
 // Writes an answer into the memory from a place on.
-pub fn put(answers: &mut [u32], at: usize, answer: &Encoded)
+pub(crate) fn put(answers: &mut [u32], at: usize, answer: &Encoded)
     requires room { ⌜ at + now answer .len ≤ length (now answers) ⌝ }
     requires whole { ⌜ now answer .len ≤ 18 ⌝ }
     ensures { λ _. ⌜ now (answers .exit) ≡ take at (now (answers .entry)) ++ (take (now (answer .entry) .len) (now (answer .entry) .words) ++ drop (at + now (answer .entry) .len) (now (answers .entry))) ⌝ }

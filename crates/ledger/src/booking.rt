@@ -6,7 +6,7 @@ use amounts::Fault;
 use amounts::Row;
 
 // Adds more at a place of the table; a refused booking writes nothing.
-pub fn enter<const N: usize, const LIMIT: u64>(
+pub(crate) fn enter<const N: usize, const LIMIT: u64>(
     table: &mut Vec<Row<N, LIMIT>>,
     at: usize,
     more: &[i64; N],

@@ -6,7 +6,7 @@ use calls::Refusal;
 
 impl Tables {
     // Turns to the next day and answers it.
-    pub fn turn(&mut self) -> Result<u32, Refusal>
+    pub(crate) fn turn(&mut self) -> Result<u32, Refusal>
         ensures { λ r. ⌜ Meets (day-call (view (now (self .entry)))) (answered r) (view (now (self .exit))) ⌝ }
     {
         if self.day >= 3653 {

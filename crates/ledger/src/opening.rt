@@ -66,7 +66,7 @@ fn overlaps(terms: &[Term], pool: u32, first: u32, last: u32) -> bool
 
 impl Tables {
     // Opens a term and answers its number.
-    pub fn open(
+    pub(crate) fn open(
         &mut self,
         pool: u32,
         point: u32,

@@ -62,7 +62,7 @@ impl Tables {
     }
 
     // The posting, if the tests before its price are passed.
-    pub fn plan_post(&self, term: u32, delivered: u32, consumed: u32) -> Result<Posting, Refusal>
+    pub(crate) fn plan_post(&self, term: u32, delivered: u32, consumed: u32) -> Result<Posting, Refusal>
         ensures { λ r. ⌜ Cases r (λ p. Ready (now (self .entry)) p × ((q : Quote) → post-call q (view (now (self .entry))) term delivered consumed ≡ pricing q (now (self .entry)) p)) (λ e. (q : Quote) → Meets (post-call q (view (now (self .entry))) term delivered consumed) (Answer.Refused e) (view (now (self .entry)))) ⌝ }
     {
         let at = self.place(term)?;
@@ -87,7 +87,7 @@ impl Tables {
     }
 
     // Books a posting: its charge line, then its gas, then its day, which it answers.
-    pub fn book_post(&mut self, posting: Posting, owed: u64) -> Result<u32, Refusal>
+    pub(crate) fn book_post(&mut self, posting: Posting, owed: u64) -> Result<u32, Refusal>
         requires ready { ⌜ Ready (now self) posting ⌝ }
         requires sum { ⌜ owed < 2 ^ 62 ⌝ }
         ensures { λ r. ⌜ Meets (charging (now (self .entry)) posting owed) (answered r) (view (now (self .exit))) ⌝ }

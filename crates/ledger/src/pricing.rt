@@ -11,7 +11,7 @@ use prices::Span;
 
 impl Posting {
     // What is short of the MDV, at the day's price; where nothing is short no price is sought.
-    pub fn owed<O: PriceSource>(&self, overrun: &O) -> Result<u64, Lack>
+    pub(crate) fn owed<O: PriceSource>(&self, overrun: &O) -> Result<u64, Lack>
         ensures value { λ r. ⌜ r ≡ due (O·PriceSource .quote (now (overrun .entry))) (now (self .entry)) ⌝ }
         ensures most { λ r. ⌜ made r (λ m. m < 2 ^ 62) ⌝ }
     {

@@ -33,7 +33,7 @@ impl Tables {
     }
 
     // States a term.
-    pub fn state(&self, term: u32) -> Result<Stated, Refusal>
+    pub(crate) fn state(&self, term: u32) -> Result<Stated, Refusal>
         ensures { λ r. ⌜ Meets (statement-call (view (now (self .entry))) term) (stated r) (view (now (self .entry))) ⌝ }
     {
         let at = self.place(term)?;
