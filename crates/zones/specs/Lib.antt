@@ -1,2 +1,3 @@
 pub mod Ledgers
 pub mod Sources
+pub mod Worked
