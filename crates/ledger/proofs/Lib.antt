@@ -1,4 +1,5 @@
 pub mod Entries
+pub mod Keeping
 pub mod Orders
 pub mod Posts
 pub mod Searches

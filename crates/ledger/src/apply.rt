@@ -1,6 +1,7 @@
 // The ledger's calls over every balancing rule and price source.
 ghost use mathlib.Core.Path.{_≡_};
 ghost use Rattle.ledger.specs.Calls.{Meets, post-call, step, answered, stated};
+ghost use Rattle.ledger.specs.Laws.{Keeps};
 ghost use Rattle.ledger.specs.Meanings.{meaning};
 ghost use Rattle.ledger.specs.View.{view};
 use crate::books::Ledger;
@@ -42,8 +43,8 @@ impl<B: BalancingRule, O: PriceSource, S: PriceSource, E: PriceSource> Ledger<B,
         self.tables.book_post(posting, owed)
     }
 
-    // Makes a call: its answer and the state after it are the book's.
-    pub fn apply(&mut self, call: Call) -> Answer
+    // The call, one row for each.
+    fn make(&mut self, call: Call) -> Answer
         ensures call { λ r. ⌜ Meets (step (meaning (B·BalancingRule .band) (O·PriceSource .quote) (S·PriceSource .quote) (E·PriceSource .quote) (now (self .entry) .zone)) (view (now (self .entry) .tables)) call) r (view (now (self .exit) .tables)) ⌝ }
         ensures zone { λ _. ⌜ now (self .exit) .zone ≡ now (self .entry) .zone ⌝ }
     {
@@ -63,5 +64,14 @@ impl<B: BalancingRule, O: PriceSource, S: PriceSource, E: PriceSource> Ledger<B,
             } => answer(self.post(term, delivered, consumed)),
             Call::Statement { term } => statement(self.tables.state(term)),
         }
+    }
+
+    // Makes a call: its answer and the state after it are the book's, and a refused call changes nothing.
+    pub fn apply(&mut self, call: Call) -> Answer
+        ensures call { λ r. ⌜ Meets (step (meaning (B·BalancingRule .band) (O·PriceSource .quote) (S·PriceSource .quote) (E·PriceSource .quote) (now (self .entry) .zone)) (view (now (self .entry) .tables)) call) r (view (now (self .exit) .tables)) ⌝ }
+        ensures keeps { λ r. ⌜ Keeps (view (now (self .entry) .tables)) r (view (now (self .exit) .tables)) ⌝ }
+        ensures zone { λ _. ⌜ now (self .exit) .zone ≡ now (self .entry) .zone ⌝ }
+    {
+        self.make(call)
     }
 }

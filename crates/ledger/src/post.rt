@@ -62,7 +62,12 @@ impl Tables {
     }
 
     // The posting, if the tests before its price are passed.
-    pub(crate) fn plan_post(&self, term: u32, delivered: u32, consumed: u32) -> Result<Posting, Refusal>
+    pub(crate) fn plan_post(
+        &self,
+        term: u32,
+        delivered: u32,
+        consumed: u32,
+    ) -> Result<Posting, Refusal>
         ensures { λ r. ⌜ Cases r (λ p. Ready (now (self .entry)) p × ((q : Quote) → post-call q (view (now (self .entry))) term delivered consumed ≡ pricing q (now (self .entry)) p)) (λ e. (q : Quote) → Meets (post-call q (view (now (self .entry))) term delivered consumed) (Answer.Refused e) (view (now (self .entry)))) ⌝ }
     {
         let at = self.place(term)?;

@@ -1,11 +1,11 @@
 // Journals and figures at the ends of their ranges.
-use balancing::NorthBalancing;
 use crate::tools::DAY;
 use crate::tools::PRICE;
 use crate::tools::answers;
 use crate::tools::open;
 use crate::tools::post;
 use crate::tools::stops;
+use balancing::NorthBalancing;
 use prices::ReferencePrice;
 use std::alloc::Global;
 use std::test::*;

@@ -31,6 +31,23 @@ fn wrong_unknown_and_missing_words(rt: LibcRuntime) -> Result<(), Fail> {
     stops(heap, &[PRICE, 0x0000_0001], 1, 1)?;
     stops(heap, &[PRICE, 0x1000_0000], 1, 1)?;
     stops(heap, &[PRICE, 0x1000_000B], 1, 1)?;
-    stops(heap, &[PRICE, DAY, 0x1000_0003, 0x2000_0001, 0x4000_0001], 1, 5)?;
-    stops(heap, &[PRICE, DAY, 0x1000_0003, 0x2000_0001, 0x3000_0001, 0x4000_0001], 1, 4)
+    stops(
+        heap,
+        &[PRICE, DAY, 0x1000_0003, 0x2000_0001, 0x4000_0001],
+        1,
+        5,
+    )?;
+    stops(
+        heap,
+        &[
+            PRICE,
+            DAY,
+            0x1000_0003,
+            0x2000_0001,
+            0x3000_0001,
+            0x4000_0001,
+        ],
+        1,
+        4,
+    )
 }

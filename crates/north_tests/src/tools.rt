@@ -36,12 +36,28 @@ pub fn answers(heap: Global, input: &[u32], at: usize, word: u32) -> Result<(), 
 
 // Adds an open call: a pool at Dawn with an MDV of 1 and thirty days from day 1 on.
 pub fn open(input: &mut Vec<u32>, pool: u32) -> Result<(), Fail> {
-    input.extend_from_slice(&[0x1000_0002, 0x2000_0000 | (pool & 0xfffff), 0x5000_0002, 0x4000_0001, 0x3000_0001, 0x3000_001E])?;
+    input.extend_from_slice(
+        &[
+            0x1000_0002,
+            0x2000_0000 | (pool & 0xfffff),
+            0x5000_0002,
+            0x4000_0001,
+            0x3000_0001,
+            0x3000_001E,
+        ],
+    )?;
     Ok(())
 }
 
 // Adds a post call for term 1.
 pub fn post(input: &mut Vec<u32>, delivered: u32, consumed: u32) -> Result<(), Fail> {
-    input.extend_from_slice(&[0x1000_0003, 0x2000_0001, 0x4000_0000 | (delivered & 0xfff_ffff), 0x4000_0000 | (consumed & 0xfff_ffff)])?;
+    input.extend_from_slice(
+        &[
+            0x1000_0003,
+            0x2000_0001,
+            0x4000_0000 | (delivered & 0xfff_ffff),
+            0x4000_0000 | (consumed & 0xfff_ffff),
+        ],
+    )?;
     Ok(())
 }

@@ -12,10 +12,20 @@ use viewing::read_report;
 // The report of an input's run.
 fn report_of(rt: &LibcRuntime, input: &[u8]) -> Result<Report, AnyError> {
     let words = words_in(rt.alloc(), input)?;
-    let Ok(Output { words: answers, stop }) = run_words(rt.alloc(), &words) else {
+    let Ok(
+        Output {
+            words: answers,
+            stop,
+        },
+    ) = run_words(rt.alloc(), &words)
+    else {
         return Err("no memory for the ledger".into());
     };
-    let journal = if words.is_empty() { &words } else { &words[1..] };
+    let journal = if words.is_empty() {
+        &words
+    } else {
+        &words[1..]
+    };
     Ok(read_report(rt.alloc(), journal, &answers, stop)?)
 }
 

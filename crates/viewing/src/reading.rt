@@ -5,10 +5,9 @@ ghost use Prim.Native.Nat.{ℕ};
 ghost use Rattle.std.specs.Of.Vec.{vec-items};
 ghost use Rattle.std.specs.Vec.{made};
 ghost use Rattle.viewing.specs.Shown.{day-after, Shown};
-
+use crate::entry::Entry;
 use calls::Answer;
 use calls::Call;
-use crate::entry::Entry;
 use journal::Stop;
 use std::alloc::AllocError;
 use std::alloc::Global;
@@ -31,7 +30,12 @@ fn day_after(day: u32, call: &Call, answer: &Answer) -> u32
 }
 
 // The entries for the answers that there are; the run stopped as it says.
-pub fn read_report(heap: Global, journal: &[u32], answers: &[u32], stop: Option<Stop>) -> Result<Report, AllocError>
+pub fn read_report(
+    heap: Global,
+    journal: &[u32],
+    answers: &[u32],
+    stop: Option<Stop>,
+) -> Result<Report, AllocError>
     ensures { λ r. ⌜ made r (λ p. Shown (now (journal .entry)) (now (answers .entry)) (vec-items (p .entries)) × (p .stop ≡ stop)) ⌝ }
 {
     let mut entries = Vec::new(heap);

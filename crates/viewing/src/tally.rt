@@ -2,9 +2,8 @@
 ghost use mathlib.Core.Path.{_≡_};
 ghost use Prim.Native.Nat.{_≤_};
 ghost use Rattle.viewing.specs.Tally.{refusal, refusals};
-
-use calls::Answer;
 use crate::entry::Entry;
+use calls::Answer;
 
 // One for a refused call, and none for a done one.
 fn refusal(answer: &Answer) -> usize

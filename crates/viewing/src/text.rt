@@ -1,4 +1,7 @@
 // The text of a run: a line for a call, a small table for a statement, and a line for the end.
+use crate::entry::Entry;
+use crate::reading::Report;
+use crate::tally::refusals_in;
 use calendar::DateDisplay;
 use calendar::date_of;
 use calls::Answer;
@@ -6,9 +9,6 @@ use calls::Call;
 use calls::Refusal;
 use calls::Stated;
 use calls::Status;
-use crate::entry::Entry;
-use crate::reading::Report;
-use crate::tally::refusals_in;
 use journal::Stop;
 use prices::Point;
 use std::fmt;
@@ -69,14 +69,30 @@ impl fmt::Display for Asked as AskedDisplay {
     fn fmt<W: fmt::Write>(&self, f: &mut fmt::Formatter<W>) -> fmt::Result {
         match self.0 {
             Call::Day => write!(f, "day"),
-            Call::Open { pool, point, mdv, first, last } => {
+            Call::Open {
+                pool,
+                point,
+                mdv,
+                first,
+                last,
+            } => {
                 let point = point_name(point);
                 let first = On(first);
                 let last = On(last);
-                write!(f, "open pool {pool} at {point}, MDV {mdv} m³, {first} to {last}")
+                write!(
+                    f,
+                    "open pool {pool} at {point}, MDV {mdv} m³, {first} to {last}"
+                )
             }
-            Call::Post { term, delivered, consumed } => {
-                write!(f, "post term {term}, delivered {delivered} m³, consumed {consumed} m³")
+            Call::Post {
+                term,
+                delivered,
+                consumed,
+            } => {
+                write!(
+                    f,
+                    "post term {term}, delivered {delivered} m³, consumed {consumed} m³"
+                )
             }
             Call::Statement { term } => write!(f, "statement of term {term}"),
         }
@@ -132,7 +148,10 @@ impl fmt::Display for Table as TableDisplay {
         let next = On(self.0.next);
         let balance = self.0.balance;
         let offered = self.0.on_offer;
-        write!(f, "\n    term {term} of pool {pool}, {status}, next day to post {next}")?;
+        write!(
+            f,
+            "\n    term {term} of pool {pool}, {status}, next day to post {next}"
+        )?;
         write!(f, "\n    balance          {balance:>20} m³")?;
         write!(f, "\n    gas on offer     {offered:>20} m³")?;
         lines(&self.0.lines, f)
