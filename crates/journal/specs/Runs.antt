@@ -60,3 +60,7 @@ pub record Runs (e : Ending) (r : Ran) (before after : List ℕ) (s : State) : T
   pub count : r .written ≡ length (e .words)
   pub memory : after ≡ e .words ++ drop (r .written) before
   pub stops : r .stop ≡ e .stop
+
+-- A run that stopped at a place, with so many words written.
+abbrev pub stopped-at : ℕ → Refusal → ℕ → Ran
+stopped-at written refusal place = record { written = written; stop = Some (record { refusal = refusal; place = place }) }

@@ -5,7 +5,7 @@ ghost use lib.ListN.{length};
 ghost use Rattle.std.specs.Options.{Cases};
 ghost use Rattle.ledger.specs.Meanings.{meaning};
 ghost use Rattle.ledger.specs.View.{view};
-ghost use Rattle.journal.specs.Runs.{run, Runs};
+ghost use Rattle.journal.specs.Runs.{run, Runs, stopped-at};
 use crate::answers::answer_len;
 use crate::answers::put;
 use crate::ran::Ran;
@@ -28,13 +28,7 @@ pub fn run<B: BalancingRule, O: PriceSource, S: PriceSource, E: PriceSource>(
     ensures zone { λ _. ⌜ now (ledger .exit) .zone ≡ now (ledger .entry) .zone ⌝ }
 {
     if words.len() > 8192 {
-        return Ran {
-            written: 0,
-            stop: Some(Stop {
-                refusal: Refusal::OutOfRange,
-                place: 0,
-            }),
-        };
+        return stopped(0, Refusal::OutOfRange, 0);
     }
     let mut written = 0;
     let mut reader = Reader::new(words);
@@ -42,22 +36,10 @@ pub fn run<B: BalancingRule, O: PriceSource, S: PriceSource, E: PriceSource>(
         let place = reader.place;
         let call = match reader.call() {
             Ok(call) => call,
-            Err(place) => return Ran {
-                written,
-                stop: Some(Stop {
-                    refusal: Refusal::BadWord,
-                    place,
-                }),
-            },
+            Err(place) => return stopped(written, Refusal::BadWord, place),
         };
         if answers.len() - written < answer_len(&ledger.tables, &call) {
-            return Ran {
-                written,
-                stop: Some(Stop {
-                    refusal: Refusal::NoRoom,
-                    place,
-                }),
-            };
+            return stopped(written, Refusal::NoRoom, place);
         }
         let answer = encode(&ledger.apply(call));
         put(answers, written, &answer);
@@ -66,5 +48,15 @@ pub fn run<B: BalancingRule, O: PriceSource, S: PriceSource, E: PriceSource>(
     Ran {
         written,
         stop: None,
+    }
+}
+
+// A run that stopped at a place, with so many words written.
+fn stopped(written: usize, refusal: Refusal, place: usize) -> Ran
+    ensures { λ r. ⌜ r ≡ stopped-at written refusal place ⌝ }
+{
+    Ran {
+        written,
+        stop: Some(Stop { refusal, place }),
     }
 }

@@ -21,11 +21,11 @@ returns-in-Err g c =
     let place = c .calls .reader .place in
     let h : place < length words = omega (arith, leb-false _ _ (sym (c .calls-test .ensures tt)), ap length (inv .4)) in
     let stop : Stopped words place (c .in-Err .place) = subst (λ ws. Stopped ws place (c .in-Err .place)) (inv .4) (c .in-Err .ensures tt .read .0) in
-    record {
+    rw (c .stopped-in-Err .ensures) (record {
       ran = reads m words _ _ _ _ _ _ (c .if-words-gt8192 .left) (ends-wrong m words _ _ _ _ place _ (inv .0) _ (stop .off) _ h (inv .2) (inv .1) (stop .read) (stop .here));
       near = omega (arith, stop .here, stop-near (drop place words) (stop .off) (stop .read), length-drop place words, c .if-words-gt8192 .left);
       zone = inv .3;
-    }
+    })
 
 pub returns-then-answers-written : need.returns-then-answers-written
 returns-then-answers-written g c =
@@ -36,11 +36,11 @@ returns-then-answers-written g c =
     let h : place < length words = omega (arith, leb-false _ _ (sym (c .calls-test .ensures tt)), ap length (inv .4)) in
     let used : Used words place (c .in-Ok .call) (c .call .last .self .place) = subst (λ ws. Used ws place (c .in-Ok .call) (c .call .last .self .place)) (inv .4) (c .in-Ok .ensures tt .read) in
     let full : length (c .args .answers .now) - c .calls .written < length (answer-words (step m (view (c .calls .ledger .tables)) (c .in-Ok .call) .answer)) = omega (arith, c .answer-len .ensures m, c .calls .kept .answers) in
-    record {
+    rw (c .stopped-then-answers-written .ensures) (record {
       ran = reads m words _ _ _ _ _ _ (c .if-words-gt8192 .left) (ends-full m words _ _ _ _ place _ (inv .0) _ (c .in-Ok .call, used .used) h (inv .2) (inv .1) (used .read) full);
       near = omega (arith, c .if-words-gt8192 .left);
       zone = inv .3;
-    }
+    })
 
 pub calls-again : need.calls-again
 calls-again g c =
