@@ -1,3 +1,4 @@
+pub mod Fits
 pub mod Lengths
 pub mod Loops
 pub mod Near

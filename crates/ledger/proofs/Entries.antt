@@ -11,7 +11,7 @@ use lib.IntN.{ℤ, pos, _+ℤ_}
 use lib.ListN.{length, getD, set}
 use Rattle.std.specs.Of.Vec.{vec-items, vec-len}
 use Rattle.std.proofs.shelf.Lists.{length-map, map-push}
-use Rattle.std.proofs.shelf.Tests.{or-left, or-right, or-from, eq-eqb, ne-eqb, lt-ltb, le-ltb}
+use Rattle.std.proofs.shelf.Tests.{or-left, or-right, or-from, or-parts, eqb-false, ltb-false, eq-eqb, ne-eqb, lt-ltb, le-ltb}
 use Rattle.amounts.specs.Rows.{sums}
 use Rattle.amounts.specs.Tables.{rows-of, grown}
 use Rattle.amounts.specs.declared.row.Row.{Row}
@@ -124,3 +124,19 @@ lines-five t n i e h =
     ap (λ j. length (getD (view t .terms) j no-term .lines)) k
     ∙ ap length (entries-lines (vec-items (t .terms)) _ _ i no-term (omega (arith, t .terms .ok .0)) (gas-level t) (lines-level t))
     ∙ row-long 5 100000000000000 (vec-items (t .lines)) i (omega (arith, t .lines .ok .0, t .beside))
+
+-- what holds of every contract with its two rows holds of every term of the book
+entries-all : (P : Term → Type 0) → ((c : Contract) (g : Gas) (l : Charges) → P (entry c (g .figures) (l .figures))) → (ts : List Contract) (gs : List Gas) (ls : List Charges) (i : ℕ) (d : Term) → i < length ts → length gs ≡ length ts → length ls ≡ length ts → P (getD (entries ts (rows-of 1 200000000 gs) (rows-of 5 100000000000000 ls)) i d)
+entries-all P p [] gs ls i d h g l = absurd (not-suc-le-zero h)
+entries-all P p (c ∷ ts) [] ls i d h g l = absurd (omega (arith, g))
+entries-all P p (c ∷ ts) (x ∷ gs) [] i d h g l = absurd (omega (arith, l))
+entries-all P p (c ∷ ts) (x ∷ gs) (y ∷ ls) zero d h g l = p c x y
+entries-all P p (c ∷ ts) (x ∷ gs) (y ∷ ls) (suc i) d h g l = entries-all P p ts gs ls i d (le-of-suc-le-suc h) (suc-inj g) (suc-inj l)
+
+pub term-holds : (t : Tables) (P : Term → Type 0) → ((c : Contract) (g : Gas) (l : Charges) → P (entry c (g .figures) (l .figures))) → (n : ℕ) → missing (view t) n ≡ false → P (term-at (view t) n)
+term-holds t P p n h =
+    let o = or-parts (eqb n 0) (ltb (length (view t .terms)) n) h in
+    let low : n ≡ 0 → ⊥ = eqb-false n 0 (o .0) in
+    let high : n ≤ length (view t .terms) = ltb-false (length (view t .terms)) n (o .1) in
+    let inside : n - 1 < length (vec-items (t .terms)) = omega (arith, low, high, term-count t, t .terms .ok .0) in
+    entries-all P p (vec-items (t .terms)) (vec-items (t .gas)) (vec-items (t .lines)) (n - 1) no-term inside (omega (arith, t .gas .ok .0, t .terms .ok .0, t .level)) (omega (arith, t .lines .ok .0, t .terms .ok .0, t .beside))
