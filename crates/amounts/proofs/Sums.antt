@@ -1,13 +1,12 @@
 -- Adding a row to another place by place: the first places added so far, and the limit.
 use mathlib.Core.Path.{_≡_, refl, ap}
-use mathlib.Core.Bool.{Bool, true, false, _&&_}
+use mathlib.Core.Bool.{true, false}
 use mathlib.Core.List.{List, [], _∷_}
 use Prim.Native.Nat.{ℕ, zero, suc, _+_, _≤_, _<_}
 use native.Mathlib.Nat.{le-of-suc-le-suc, not-suc-le-zero}
 use native.Mathlib.Numerals.{add-one}
-use native.Mathlib.Omega.{arith}
 use lib.Dec.{leb}
-use lib.IntN.{ℤ, pos, _+ℤ_, natAbs}
+use lib.IntN.{ℤ, _+ℤ_, natAbs}
 use lib.ListN.{length, getD, set}
 use Rattle.std.proofs.shelf.Tests.{lt-leb, and-left, and-right, and-parts, and-from}
 use Rattle.amounts.specs.Rows.{within, sums}

@@ -1,6 +1,6 @@
 -- Every answer of a ledger fits its words, by the ranges that the tables keep.
 use mathlib.Core.Path.{_≡_, refl}
-use mathlib.Core.Bool.{Bool, true, false, cond, _&&_}
+use mathlib.Core.Bool.{Bool, true}
 use mathlib.Core.List.{List, [], _∷_}
 use Prim.Native.Nat.{ℕ, _/_, _≤_, _<_}
 use native.Mathlib.Omega.{arith}
@@ -23,7 +23,7 @@ use Rattle.ledger.specs.declared.term.Term.{Term as Contract}
 use Rattle.ledger.proofs.Entries.{term-count, term-holds}
 use Rattle.prices.specs.Quotes.{Fair}
 use Rattle.prices.specs.declared.source.Lack.{Lack}
-use Rattle.words.specs.Answers.{answer-fits, line-highs, stated-fits}
+use Rattle.words.specs.Answers.{answer-fits, line-highs}
 use Rattle.words.specs.Writing.{fit}
 use Rattle.journal.specs.Laws.{Fair-source, Answers-fit}
 

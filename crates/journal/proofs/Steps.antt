@@ -1,27 +1,18 @@
 -- One call of a run: passed over once it is read, stopped, or answered.
-use mathlib.Core.Path.{_≡_, refl, sym, ap, subst, _∙_}
-use mathlib.Core.Bool.{cond}
-use mathlib.Core.List.{List, [], _∷_, _++_}
+use mathlib.Core.Path.{_≡_, refl, ap, _∙_}
+use mathlib.Core.List.{List, [], _∷_}
 use Prim.Native.Nat.{ℕ, zero, suc, _+_, _-_, _≤_, _<_}
 use native.Mathlib.Omega.{arith}
-use lib.Dec.{eqb, ltb}
 use lib.ListN.{length, drop}
-use Rattle.std.specs.declared.option.Option.{Option}
-use Rattle.std.specs.declared.option.Option.the-variants.{Some, None}
-use Rattle.std.specs.declared.result.Result.{Result}
 use Rattle.std.specs.declared.result.Result.the-variants.{Ok, Err}
-use Rattle.std.proofs.shelf.Lists.{append-assoc}
-use Rattle.std.proofs.shelf.Tests.{lt-ltb, le-ltb, cond-true, cond-false, cond-both}
+use Rattle.std.proofs.shelf.Tests.{lt-ltb, le-ltb, cond-true, cond-false}
 use Rattle.calls.specs.declared.call.Call.{Call}
 use Rattle.calls.specs.declared.refusal.Refusal.the-variants.{BadWord, NoRoom}
 use Rattle.ledger.specs.Book.{State}
 use Rattle.ledger.specs.Calls.{Meaning, step}
-use Rattle.words.specs.Kinds.{kind-in, value-in}
-use Rattle.words.specs.Reading.{read-call, with-shape, called}
-use Rattle.words.specs.Shapes.{shape-of}
+use Rattle.words.specs.Reading.{read-call}
 use Rattle.words.specs.Writing.{answer-words}
-use Rattle.words.specs.declared.kind.Kind.{Kind}
-use Rattle.journal.specs.Runs.{Ending, stopped, answering, made, go, run-from}
+use Rattle.journal.specs.Runs.{stopped, answering, made, go, run-from}
 
 module _ (m : Meaning) where
   -- the words of a call are passed over

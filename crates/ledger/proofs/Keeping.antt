@@ -1,12 +1,12 @@
 -- A refused call changes nothing, whatever it was and whoever refused it.
-use mathlib.Core.Path.{_≡_, refl, sym, ap, _∙_}
-use mathlib.Core.Bool.{Bool, true, false, cond}
+use mathlib.Core.Path.{_≡_, refl, sym, _∙_}
+use mathlib.Core.Bool.{Bool}
 use mathlib.Core.List.{List, [], _∷_}
 use Prim.Native.Nat.{ℕ}
 use native.Mathlib.Omega.{arith}
 use Rattle.std.proofs.shelf.Tests.{cond-both}
 use Rattle.calls.specs.declared.call.Answer.{Answer}
-use Rattle.calls.specs.declared.call.Answer.the-variants.{Done, Stated, Refused}
+use Rattle.calls.specs.declared.call.Answer.the-variants.{Done, Refused}
 use Rattle.calls.specs.declared.call.Call.{Call}
 use Rattle.calls.specs.declared.call.Call.the-variants.{Day, Open, Post, Statement}
 use Rattle.calls.specs.declared.refusal.Refusal.{Refusal}

@@ -6,7 +6,6 @@ ghost use Rattle.std.specs.Vec.{made};
 ghost use Rattle.ledger.specs.Book.{new-book};
 ghost use Rattle.ledger.specs.Making.{allowed, Unmade};
 ghost use Rattle.ledger.specs.View.{view};
-ghost use Rattle.ledger.specs.declared.failing.NotMade.the-variants.{NoMemory};
 use crate::allowances::Allowances;
 use crate::books::Ledger;
 use crate::failing::NotMade;

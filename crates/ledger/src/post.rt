@@ -7,7 +7,6 @@ ghost use Rattle.std.specs.Of.Vec.{vec-len, vec-items};
 ghost use Rattle.amounts.specs.Rows.{within};
 ghost use Rattle.amounts.specs.Tables.{grown, rows-of};
 ghost use Rattle.std.specs.Results.{Cases};
-ghost use Rattle.std.specs.Vec.{made, refused};
 ghost use Rattle.prices.specs.Quotes.{Quote};
 ghost use Rattle.ledger.specs.Book.{missing};
 ghost use Rattle.ledger.specs.Calls.{Meets, post-call, posted, answered, overrun-line};

@@ -1,7 +1,6 @@
 // What a posting owes for its overrun.
 ghost use mathlib.Core.Path.{_≡_};
-ghost use Prim.Native.Nat.{_<_, _≤_, _^_};
-ghost use Rattle.std.specs.Results.{Cases};
+ghost use Prim.Native.Nat.{_<_, _^_};
 ghost use Rattle.std.specs.Vec.{made};
 ghost use Rattle.ledger.specs.Plans.{due};
 use crate::posting::Posting;

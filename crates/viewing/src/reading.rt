@@ -1,7 +1,5 @@
 // The entries of a run, read off the words that it read and the words that it wrote.
 ghost use mathlib.Core.Path.{_≡_};
-ghost use mathlib.Core.List.{List};
-ghost use Prim.Native.Nat.{ℕ};
 ghost use Rattle.std.specs.Of.Vec.{vec-items};
 ghost use Rattle.std.specs.Vec.{made};
 ghost use Rattle.viewing.specs.Shown.{day-after, Shown};

@@ -1,9 +1,9 @@
 -- Answers: written and read back, and read and written again.
 use mathlib.Core.Path.{_≡_, refl, sym, ap, subst, _∙_}
-use mathlib.Core.Bool.{Bool, true, false, cond, not, _&&_, _||_}
-use mathlib.Core.Logic.{_⊎_, inl, inr}
+use mathlib.Core.Bool.{Bool, true, false, not, _||_}
+use mathlib.Core.Logic.{inl, inr}
 use mathlib.Core.List.{List, [], _∷_, _++_}
-use Prim.Native.Nat.{ℕ, zero, suc, _+_, _*_, _/_, _%_, _≤_, _<_}
+use Prim.Native.Nat.{ℕ, zero, suc, _+_, _*_, _/_, _%_, _<_}
 use native.Mathlib.Nat.{mod-mod}
 use native.Mathlib.Omega.{arith}
 use lib.Dec.{eqb, ltb, lit<}
@@ -28,8 +28,8 @@ use Rattle.calls.specs.declared.status.Status.{Status}
 use Rattle.calls.specs.declared.status.Status.the-variants.{Waiting, Active, Expired}
 use Rattle.words.specs.Answers.{is-below, signed-by, signed-in, line-in, lines-in, stated-in, refusal-in, is-statement, answer-in, differs, checked, read-answer, read-answers, answers-words, answer-fits, answers-fit, answer-count, line-highs, stated-fits}
 use Rattle.words.specs.Journal.{Reading, whole, halted, add, next}
-use Rattle.words.specs.Kinds.{kind-number, kind-in, value-in, word}
-use Rattle.words.specs.Writing.{fit, signed-word, part-word, line-words, lines-words, statement-words, answer-words}
+use Rattle.words.specs.Kinds.{value-in, word}
+use Rattle.words.specs.Writing.{fit, signed-word, part-word, lines-words, answer-words}
 use Rattle.words.specs.declared.kind.Kind.the-variants as kind
 use Rattle.words.proofs.Codec.{kind-word, value-word}
 use Rattle.words.proofs.Differences.{differs-self, same-front}

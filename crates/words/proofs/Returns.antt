@@ -2,7 +2,7 @@
 use mathlib.Core.Path.{_≡_, refl, sym, ap, subst, _∙_}
 use mathlib.Core.Bool.{true}
 use mathlib.Core.List.{List, [], _∷_, _++_}
-use Prim.Native.Nat.{ℕ, suc, _+_, _≤_, _<_}
+use Prim.Native.Nat.{ℕ, _+_, _≤_}
 use native.Mathlib.Omega.{arith}
 use lib.ListN.{length, drop}
 use Rattle.std.specs.Vec.{made}
@@ -11,7 +11,7 @@ use Rattle.std.specs.declared.result.Result.the-variants.{Ok, Err}
 use Rattle.std.proofs.shelf.Lists.{append-assoc, drop-at, length-append, length-drop}
 use Rattle.std.proofs.shelf.Tests.{and-parts, and-from}
 use Rattle.calls.specs.declared.call.Call.{Call}
-use Rattle.words.specs.Journal.{Reading, whole, halted, add, next, ended, read-by, read-calls, Halt}
+use Rattle.words.specs.Journal.{Reading, whole, halted, add, next, read-by, read-calls, Halt}
 use Rattle.words.specs.Lists.{calls-words, all-fit}
 use Rattle.words.specs.Reading.{read-call}
 use Rattle.words.specs.Shapes.{figures-of}

@@ -57,9 +57,10 @@ calls-stop [] at h e = absurd (omega arith)
 calls-stop (w ∷ ws) at h e = ap (λ r. next r (λ u. read-by ws (drop u (w ∷ ws)))) e
 
 module _ (ws : List ℕ) (xs : List Call) (place : ℕ) (so-far : behind xs place (read-calls (drop place ws)) ≡ read-calls ws) where
-  pub read-more : (c : Call) (after : ℕ) → Used ws place c after → behind (xs ++ c ∷ []) after (read-calls (drop after ws)) ≡ read-calls ws
-  read-more c after u =
-      ap (λ n. behind (xs ++ c ∷ []) n (read-calls (drop n ws))) (u .moved)
+  pub read-more : (c : Call) (after : ℕ) → Used ws place c after → (zs : List Call) → zs ≡ xs ++ c ∷ [] → behind zs after (read-calls (drop after ws)) ≡ read-calls ws
+  read-more c after u zs is =
+      ap (λ s. behind s after (read-calls (drop after ws))) is
+      ∙ ap (λ n. behind (xs ++ c ∷ []) n (read-calls (drop n ws))) (u .moved)
       ∙ ap (λ s. behind (xs ++ c ∷ []) (place + u .used) (read-calls s)) (sym (drop-drop (u .used) place ws))
       ∙ sym (behind-add xs place c (u .used) (read-calls (drop (u .used) (drop place ws))))
       ∙ sym (ap (behind xs place) (calls-step (drop place ws) c (u .used) (u .read) (u .some)))
@@ -77,9 +78,10 @@ module _ (cs : List Call) (ws : List ℕ) (xs : List Answer) (i place : ℕ) (so
   turn h r e =
       sym (ap (behind xs place) (at-drop-more (λ s. read-answers s (drop place ws)) cs i Day h ∙ ap (λ q. next q (λ used. read-answers (drop (i + 1) cs) (drop used (drop place ws)))) e)) ∙ so-far
 
-  pub answer-more : i < length cs → (a : Answer) (after : ℕ) → Replied (getD cs i Day) ws place a after → behind (xs ++ a ∷ []) after (read-answers (drop (i + 1) cs) (drop after ws)) ≡ read-answers cs ws
-  answer-more h a after u =
-      ap (λ n. behind (xs ++ a ∷ []) n (read-answers (drop (i + 1) cs) (drop n ws))) (u .moved)
+  pub answer-more : i < length cs → (a : Answer) (after : ℕ) → Replied (getD cs i Day) ws place a after → (zs : List Answer) → zs ≡ xs ++ a ∷ [] → behind zs after (read-answers (drop (i + 1) cs) (drop after ws)) ≡ read-answers cs ws
+  answer-more h a after u zs is =
+      ap (λ s. behind s after (read-answers (drop (i + 1) cs) (drop after ws))) is
+      ∙ ap (λ n. behind (xs ++ a ∷ []) n (read-answers (drop (i + 1) cs) (drop n ws))) (u .moved)
       ∙ ap (λ s. behind (xs ++ a ∷ []) (place + u .used) (read-answers (drop (i + 1) cs) s)) (sym (drop-drop (u .used) place ws))
       ∙ sym (behind-add xs place a (u .used) (read-answers (drop (i + 1) cs) (drop (u .used) (drop place ws))))
       ∙ turn h (Ok (a, u .used)) (u .read)

@@ -6,7 +6,6 @@ use Prim.Native.Nat.{ℕ, zero, suc, _+_, _≤_, _<_}
 use native.Mathlib.Nat.{le-of-suc-le-suc, not-suc-le-zero}
 use native.Mathlib.Numerals.{add-one}
 use native.Mathlib.Omega.{arith}
-use lib.Dec.{ltb}
 use lib.ListN.{length, getD, take, drop, set}
 use Rattle.std.specs.Options.{valueOr}
 use Rattle.std.proofs.shelf.Lists.{append-assoc, at-drop-more, at-drop-all, take-more-set, take-all}

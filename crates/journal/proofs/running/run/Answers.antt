@@ -8,7 +8,7 @@ use Rattle.ledger.specs.Calls.{Meets, step}
 use Rattle.ledger.specs.Meanings.{meaning}
 use Rattle.ledger.specs.View.{view}
 use Rattle.words.specs.Writing.{answer-words}
-use Rattle.words.specs.Reading.{Read, Used, Stopped}
+use Rattle.words.specs.Reading.{Used, Stopped}
 use Rattle.journal.proofs.Near.{stop-near}
 use Rattle.journal.proofs.Loops.{step-on, ends-whole, ends-wrong, ends-full, reads}
 use Rattle.journal.proofs.running.run.Needs as need

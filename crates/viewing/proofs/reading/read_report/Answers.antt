@@ -1,4 +1,4 @@
-use mathlib.Core.Path.{_≡_, sym, subst, _∙_}
+use mathlib.Core.Path.{subst, _∙_}
 use Rattle.words.specs.Answers.{Replied}
 use Rattle.words.specs.Reading.{Used}
 use Rattle.viewing.proofs.Entries.{begins, goes-on}

@@ -1,7 +1,6 @@
 use mathlib.Core.Path.{_≡_, sym}
 use mathlib.Core.List.{[], _∷_}
 use native.Mathlib.Omega.{arith}
-use borrow.Author.Needs.{needs}
 use lib.IntN.{pos}
 use lib.ListN.{getD, take}
 use Rattle.std.proofs.shelf.Lists.{append-nil, length-set}

@@ -1,11 +1,9 @@
 use mathlib.Core.Path.{_≡_, refl, sym, ap, _∙_}
-use Prim.Native.Nat.{_+_}
 use native.Mathlib.Nat.{add-zero}
 use native.Mathlib.Omega.{arith}
-use lib.ListN.{length, take, drop}
+use lib.ListN.{length, take}
 use Rattle.std.proofs.shelf.Lists.{length-set}
 use Rattle.std.specs.declared.result.Result.the-variants.{Ok}
-use Rattle.words.specs.Reading.{read-figures}
 use Rattle.words.proofs.Readings.{missed-end, missed-wrong, figure-more, figures-all}
 use Rattle.words.proofs.reader.figures_at.Needs as need
 use Rattle.words.proofs.reader.figures_at.Needs.{then-at-words·by·then-at-words, then-at-words·by·else-at-words·then-not-is-of}

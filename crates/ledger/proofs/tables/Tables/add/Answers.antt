@@ -1,9 +1,7 @@
-use mathlib.Core.Path.{_≡_, sym, ap, _∙_}
-use mathlib.Core.List.{[], _∷_, _++_}
-use Prim.Native.Nat.{_+_}
+use mathlib.Core.Path.{ap}
 use native.Mathlib.Omega.{arith}
 use Rattle.ledger.specs.Book.{with-terms}
-use Rattle.ledger.specs.View.{view, entry}
+use Rattle.ledger.specs.View.{view}
 use Rattle.ledger.proofs.Entries.{term-count, view-push}
 use Rattle.ledger.proofs.tables.Tables.add.Needs as need
 

@@ -1,11 +1,11 @@
-use mathlib.Core.Path.{_≡_, sym, ap, _∙_}
+use mathlib.Core.Path.{sym, ap, _∙_}
 use mathlib.Core.List.{[], _∷_, _++_}
 use Prim.Native.Nat.{_≤_, _<_}
 use native.Mathlib.Omega.{arith}
 use lib.ListN.{length}
 use Rattle.std.proofs.shelf.Tests.{not-from-true, le-leb, lt-leb}
 use Rattle.ledger.specs.Book.{some-of, with-terms}
-use Rattle.ledger.specs.View.{view, entry}
+use Rattle.ledger.specs.View.{view}
 use Rattle.calls.specs.declared.call.Answer.the-variants.{Done}
 use Rattle.ledger.proofs.Entries.{term-count, view-some}
 use Rattle.ledger.proofs.Orders.{refuses, passes}

@@ -1,5 +1,5 @@
 use mathlib.Core.Path.{refl}
-use mathlib.Core.Logic.{_⊎_, inl, inr, ⊎-elim}
+use mathlib.Core.Logic.{inl, inr, ⊎-elim}
 use native.Mathlib.Omega.{arith}
 use Rattle.ledger.proofs.Entries.{number-lacks, number-holds}
 use Rattle.ledger.proofs.tables.Tables.place.Needs as need

@@ -1,13 +1,12 @@
-use mathlib.Core.Path.{_≡_, refl, sym, ap, _∙_}
+use mathlib.Core.Path.{refl, _∙_}
 use mathlib.Core.Logic.{⊎-elim}
-use native.Mathlib.Omega.{arith}
 use borrow.Author.Needs.{needs}
 use mir.Syntax.{w64}
 use Rattle.std.proofs.shelf.Tests.{not-from-true, not-from-false, lt-ltb, le-ltb, le-leb, lt-leb, or-left, or-right, or-from}
 use Rattle.std.proofs.shelf.Results.{err-from-errBy}
 use Rattle.std.proofs.shelf.Signed.{toZ-ofZ}
 use Rattle.ledger.specs.View.{view}
-use Rattle.ledger.proofs.Entries.{term-count, read-at}
+use Rattle.ledger.proofs.Entries.{read-at}
 use Rattle.ledger.proofs.Posts.{gas-tested, planned, shut, too-large, untimely, gas-over}
 use Rattle.ledger.proofs.tables.Tables.plan_post.Needs as need
 
