@@ -1,4 +1,5 @@
 // The calls and their answers: what can be asked of the ledger, and the refusals with their numbers.
+#![tactic(auto)]
 mod call;
 mod refusal;
 mod status;

@@ -1,4 +1,5 @@
 // northview: reads what northrun reads, and prints what was asked and what was answered, call by call.
+#![tactic(auto)]
 use anyhow::anyhow;
 use bytes::words_in;
 use north::{Output, run_words};

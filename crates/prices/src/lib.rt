@@ -1,4 +1,5 @@
 // Price sources: what a source means, and the ends and layers that sources are made of.
+#![tactic(auto)]
 mod daily;
 mod days;
 mod entry;

@@ -1,4 +1,5 @@
 // Journal words: calls as words and back, and answers as words and back.
+#![tactic(auto)]
 mod decoded;
 mod encoded;
 mod fault;

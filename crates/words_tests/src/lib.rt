@@ -1,3 +1,4 @@
 // Tests of the journal words.
+#![tactic(auto)]
 #[cfg(test)]
 mod tests;
