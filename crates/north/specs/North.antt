@@ -1,6 +1,6 @@
 -- A northern run: the first word is the reference price, and the rest is the journal.
 use Rattle.std.specs.Prelude.{ℕ, ◌+◌, cond, ◌&&◌, List, [], ◌∷◌, ◌++◌, Some, None, Option, ◌==◌, nat_le}
-use Rattle.bytes.specs.Packing.{words_of, packed}
+use Rattle.octets.specs.Packing.{words_of, packed}
 use Rattle.calls.specs.Refusals.{number_of}
 use Rattle.calls.specs.declared.refusal.Refusal.TheVariants.{BadWord}
 use Rattle.journal.specs.Runs.{Ending, run}

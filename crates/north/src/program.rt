@@ -4,7 +4,7 @@ ghost use Rattle.north.specs.North.{no_price, priced_run, north_run, north_words
 
 use crate::output::Output;
 use crate::price::price_of;
-use bytes::{bytes_of, words_in};
+use octets::{bytes_of, words_in};
 use calls::Refusal;
 use journal::{Stop, run};
 use ledger::NotMade;

@@ -1,7 +1,7 @@
 // northview: reads what northrun reads, and prints what was asked and what was answered, call by call.
 #![tactic(auto)]
 use anyhow::anyhow;
-use bytes::words_in;
+use octets::words_in;
 use north::{Output, run_words};
 use std::io::Read;
 use viewing::{Report, read_report};

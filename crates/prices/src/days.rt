@@ -20,9 +20,9 @@ pub trait DayPrices {
 
 // The total over the days of a span, or the first day of it that has no price: one pass over the days.
 fn total<D: DayPrices>(prices: &D, span: Span) -> Result<u64, Lack>
-    ensures total { Totals (posted prices.now) span.from span.to result }
-    ensures first { MeanFirst (posted prices.now) span.from span.to }
-    ensures between { MeanBetween (posted prices.now) span.from span.to }
+    ensures total { Totals (D.posted prices.now) span.from span.to result }
+    ensures first { MeanFirst (D.posted prices.now) span.from span.to }
+    ensures between { MeanBetween (D.posted prices.now) span.from span.to }
 {
     let mut sum: u64 = 0;
     for day in span.from..span.to + 1 {
@@ -36,9 +36,9 @@ fn total<D: DayPrices>(prices: &D, span: Span) -> Result<u64, Lack>
 
 // The mean over the days of a span, or the first day of it that has no price.
 pub fn mean<D: DayPrices>(prices: &D, span: Span) -> Result<u32, Lack>
-    ensures value { result ≡ mean_of (posted prices.now) span.from span.to }
-    ensures first { FirstLack (posted prices.now) span.from span.to result }
-    ensures between { Between (posted prices.now) span.from span.to result }
+    ensures value { result ≡ mean_of (D.posted prices.now) span.from span.to }
+    ensures first { FirstLack (D.posted prices.now) span.from span.to result }
+    ensures between { Between (D.posted prices.now) span.from span.to result }
 {
     let total = total(prices, span)?;
     let n = (span.to + 1 - span.from) as u64;

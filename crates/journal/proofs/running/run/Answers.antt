@@ -32,7 +32,7 @@ returns-then-answers-written g c =
     let place = c.calls.reader.place in
     let h : place < length words = omega (arith, leb-false _ _ (sym c.calls-test.ensures), ap length inv.4) in
     let used : Used words place c.in-Ok.call c.call.new.self.place = subst (λ ws. Used ws place c.in-Ok.call c.call.new.self.place) inv.4 c.in-Ok.ensures.read in
-    let full : length c.args.answers.now - c.calls.written < length (answer_words (step m (view c.calls.ledger.tables) c.in-Ok.call).answer) = omega (arith, c.answer-len.ensures m, c.calls.auto.answers) in
+    let full : length c.args.answers.now - c.calls.written < length (answer_words (step m (view c.calls.ledger.tables) c.in-Ok.call).answer) = omega (arith, c.answer_len.ensures m, c.calls.auto.answers) in
     rw c.stopped-then-answers-written.ensures (record {
       ran = reads m words _ _ _ _ _ _ c.if-words-gt8192.false (ends_full m words _ _ _ _ place _ inv.0 _ (c.in-Ok.call, used.used) h inv.2 inv.1 used.read full);
       near = omega (arith, c.if-words-gt8192.false);
@@ -51,7 +51,7 @@ calls-preserved g c =
     let met : Meets (step m s c.in-Ok.call) c.apply.result (view c.apply.new.self.tables) =
     subst (λ z. Meets (step (meaning g.B.BalancingRule.band g.O.PriceSource.quote g.S.PriceSource.quote g.E.PriceSource.quote z) s c.in-Ok.call) c.apply.result (view c.apply.new.self.tables)) inv.3 c.apply.ensures.call in
     let len = c.encode-answer.result.len in
-    let n : len ≡ c.answer-len.result = c.encode-answer.ensures.len ∙ ap (λ x. length (answer_words x)) met.answers ∙ sym (c.answer-len.ensures m) in
+    let n : len ≡ c.answer_len.result = c.encode-answer.ensures.len ∙ ap (λ x. length (answer_words x)) met.answers ∙ sym (c.answer_len.ensures m) in
     let fits : len ≤ length c.args.answers.now - c.calls.written = omega (arith, n, c.if-answers-written.false, c.calls.auto.answers) in
     let on = step_on m words (length c.args.answers.now) (view c.args.ledger.now.tables) c.calls.answers c.calls.written place s inv.0 c.in-Ok.call c.call.new.self.place len c.apply.result (view c.apply.new.self.tables) c.encode-answer.result.words c.args.answers.now c.put.new.answers h inv.2 inv.1 used met c.encode-answer.ensures.words c.encode-answer.ensures.len fits c.put.ensures in
     (on.0, on.1, omega (arith, n, c.if-answers-written.false, c.calls.auto.answers, c.put.auto.answers, inv.2), c.apply.ensures.zone ∙ inv.3, c.call.ensures.same ∙ inv.4)

@@ -6,7 +6,7 @@ use Rattle.ledger.proofs.booking.enter.Goals as goal
 
 pub returns : goal.returns
 returns g c =
-    let same = c.deref-mut.ensures.value in
+    let same = c.deref_mut.ensures.value in
     let long : length c.book.new.table ≡ c.args.table.now.len = search rules in
     let held = with_items_is c.args.table.now c.book.new.table long in
     record {

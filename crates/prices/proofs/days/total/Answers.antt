@@ -11,12 +11,12 @@ loop-day-preserved g c =
     rw (← e) at (g.met.D.DayPrices.fair c.args.prices.now c.loop-day.day) in
     (omega (arith, c.loop-day.invariant.0), passed_more _ _ _ c.loop-day.sum c.loop-day.day c.in-Some.price (omega arith) e c.loop-day.invariant.1)
 
-pub returns-in-default : goal.returns-in-default
-returns-in-default g c =
+pub returns-in_default : goal.returns-in_default
+returns-in_default g c =
     let price = g.D.DayPrices.posted c.args.prices.now in
     let forward = c.args.span.forward in
     record {
-      total = passed_lack price _ _ c.loop-day.sum c.loop-day.day (omega arith) c.in-default.ensures c.loop-day.invariant.1;
+      total = passed_lack price _ _ c.loop-day.sum c.loop-day.day (omega arith) c.in_default.ensures c.loop-day.invariant.1;
       first = mean_first price _ _ forward;
       between = mean_between price _ _ forward;
     }

@@ -8,7 +8,7 @@ use Rattle.words.proofs.journal.read_calls.Goals as goal
 pub loop-reader-preserved : goal.loop-reader-preserved
 loop-reader-preserved c =
     let u = subst (λ ws. Used ws c.loop-reader.reader.place c.in-Ok.call c.call.new.self.place) c.loop-reader.invariant.0 c.in-Ok.ensures.read in
-    let items = pushed (c.in-Ok.call ∷ []) refl c.in-ok-push.was c.push.ensures.items in (
+    let items = pushed (c.in-Ok.call ∷ []) refl c.in_ok-push-in-Ok.was c.push.ensures.items in (
       c.in-Ok.ensures.same ∙ c.loop-reader.invariant.0,
       read_more c.args.words.now (vec_items c.loop-reader.calls) c.loop-reader.reader.place c.loop-reader.invariant.1 c.in-Ok.call c.call.new.self.place u (vec_items c.push.new.self) items,
     )

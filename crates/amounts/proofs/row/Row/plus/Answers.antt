@@ -6,8 +6,8 @@ use Rattle.amounts.specs.Rows.{within}
 use Rattle.amounts.proofs.Sums.{so_far_at, so_far_more, so_far_all, within_set, within_fails}
 use Rattle.amounts.proofs.row.Row.plus.Goals as goal
 
-pub returns-in-default : goal.returns-in-default
-returns-in-default g c =
+pub returns-in_default : goal.returns-in_default
+returns-in_default g c =
     let i = c.loop-i.i in
     let xs = c.args.self.now.figures in
     let ys = c.args.more.now in

@@ -3,5 +3,9 @@ use Rattle.std.proofs.lemmas.Int.{ints}
 use Rattle.balancing.specs.Bounds.{egd_most}
 use Rattle.balancing.proofs.egd.EgdBalancingRule.edges.Goals as goal
 
-pub invariant-of-result : goal.invariant-of-result
-invariant-of-result c = let h = egd_most c.args.mdv c.args.days in (omega (arith, ints), (omega (arith, ints), (omega (arith, ints), tt)))
+pub invariant_of-result : goal.invariant_of-result
+invariant_of-result c = let h = egd_most c.args.mdv c.args.days in record {
+      ordered = omega (arith, ints);
+      floor = omega (arith, ints);
+      ceiling = omega (arith, ints);
+    }

@@ -6,10 +6,10 @@ use Rattle.amounts.proofs.Bookings.{grown_at}
 use Rattle.calls.specs.Refusals.{gas_refusal}
 use Rattle.ledger.proofs.tables.Tables.test_gas.Goals as goal
 
-pub returns-in-err-plus : goal.returns-in-err-plus
-returns-in-err-plus c =
-    let p = err_from_is_err_and c.from-residual.result c.from-residual.ensures.1 in
-    let t = c.in-err-plus.ensures in
+pub returns-in_err-plus : goal.returns-in_err-plus
+returns-in_err-plus c =
+    let p = err_from_is_err_and c.from_residual.result c.from_residual.ensures.1 in
+    let t = c.in_err-plus.ensures in
     let gas = c.args.self.now.gas in
     let h : c.args.at < length (vec_items gas) = omega (arith, gas.ok.0, c.args.self.now.level) in
     let e = grown_at 1 200000000 (vec_items gas) c.args.at (c.args.net ∷ []) c.index.result.now h c.index.ensures in
@@ -17,7 +17,7 @@ returns-in-err-plus c =
 
 pub returns : goal.returns
 returns c =
-    let t = c.in-ok-plus.ensures in
+    let t = c.in_ok-plus.ensures in
     let gas = c.args.self.now.gas in
     let h : c.args.at < length (vec_items gas) = omega (arith, gas.ok.0, c.args.self.now.level) in
     let e = grown_at 1 200000000 (vec_items gas) c.args.at (c.args.net ∷ []) c.index.result.now h c.index.ensures in

@@ -1,7 +1,7 @@
 -- A word more of the bytes, and a word more as bytes: what is left gives the rest.
 use Rattle.std.proofs.Common.{◌≡◌, ℕ, ◌+◌, ◌*◌, ◌/◌, ◌%◌, ◌<◌, ◌≤◌, List, [], ◌∷◌, ◌++◌, length, get_or, drop, sym, refl, ap, ◌∙◌, arith}
 use Rattle.std.proofs.lemmas.List.{length-drop, append_assoc, append-nil, drop_more, at_drop_more, at_drop_all}
-use Rattle.bytes.specs.Packing.{little, words_of, four, packed}
+use Rattle.octets.specs.Packing.{little, words_of, four, packed}
 
 one_byte : (bs : List ℕ) (k j : ℕ) (rest : List ℕ) → k < length bs → j ≡ k + 1 → drop j bs ≡ rest → drop k bs ≡ get_or bs k 0 ∷ rest
 one_byte bs k j rest h e r = drop_more bs k 0 h ∙ ap (λ xs. get_or bs k 0 ∷ xs) (ap (λ i. drop i bs) (sym e) ∙ r)

@@ -1,6 +1,6 @@
 // Bytes to words and back.
 ghost use Rattle.std.specs.Prelude.{◌≡◌, ◌+◌, ◌*◌, IfOk};
-ghost use Rattle.bytes.specs.Packing.{little, words_of, packed, four};
+ghost use Rattle.octets.specs.Packing.{little, words_of, packed, four};
 
 use std::alloc::{AllocError, Global};
 
