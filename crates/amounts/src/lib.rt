@@ -1,5 +1,6 @@
 // Amounts: rows of whole numbers under the limit of their kind, and how they are booked.
 #![tactic(auto)]
+
 mod row;
 mod table;
 

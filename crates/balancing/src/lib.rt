@@ -1,5 +1,6 @@
 // Balancing: the edges that a balance is carried between, the rules that set them, and the split of a balance.
 #![tactic(auto)]
+
 mod edges;
 mod egd;
 mod north;

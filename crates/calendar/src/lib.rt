@@ -1,5 +1,6 @@
 // The calendar from 1 January 2024, day 1, to 31 December 2033, day 3,653: days, months and dates.
 #![tactic(auto)]
+
 mod dates;
 mod months;
 

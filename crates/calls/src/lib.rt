@@ -1,5 +1,6 @@
 // The calls and their answers: what can be asked of the ledger, and the refusals with their numbers.
 #![tactic(auto)]
+
 mod call;
 mod refusal;
 mod status;

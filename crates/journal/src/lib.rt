@@ -1,5 +1,6 @@
 // Running a journal: words are read, calls are made, and their answers are written.
 #![tactic(auto)]
+
 mod answers;
 mod laws;
 mod ran;

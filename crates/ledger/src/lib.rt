@@ -1,5 +1,6 @@
 // The ledger of banked gas accounts: its tables, its calls, and in specs/ the plain book that they keep.
 #![tactic(auto)]
+
 mod allowances;
 mod apply;
 mod booking;

@@ -1,5 +1,6 @@
 // A northern journal from bytes to answers: what the programs do, on values.
 #![tactic(auto)]
+
 mod output;
 mod price;
 mod program;

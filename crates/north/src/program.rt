@@ -4,10 +4,10 @@ ghost use Rattle.north.specs.North.{no_price, priced_run, north_run, north_words
 
 use crate::output::Output;
 use crate::price::price_of;
-use octets::{bytes_of, words_in};
 use calls::Refusal;
 use journal::{Stop, run};
 use ledger::NotMade;
+use octets::{bytes_of, words_in};
 use std::alloc::Global;
 use words::{Kind, word};
 use zones::north_ledger;

@@ -19,7 +19,7 @@ fn cut_inside_a_word(rt: HostRuntime) -> Result<(), Fail> {
         Ok(output) => output,
         Err(_) => return Err(Fail::new("no memory")),
     };
-    assert!(rt; output.as_slice() == &[1, 0, 0, 0x90, 1, 0, 0, 0x20]);
+    assert!(rt; output.as_slice() == [1, 0, 0, 0x90, 1, 0, 0, 0x20].as_slice());
     Ok(())
 }
 

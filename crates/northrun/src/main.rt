@@ -1,5 +1,6 @@
 // northrun: reads a reference price and a northern journal, and writes the journal's answers.
 #![tactic(auto)]
+
 use anyhow::anyhow;
 use std::io::{Read, Write};
 

@@ -1,8 +1,9 @@
 // northview: reads what northrun reads, and prints what was asked and what was answered, call by call.
 #![tactic(auto)]
+
 use anyhow::anyhow;
-use octets::words_in;
 use north::{Output, run_words};
+use octets::words_in;
 use std::io::Read;
 use viewing::{Report, read_report};
 

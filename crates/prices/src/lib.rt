@@ -1,5 +1,6 @@
 // Price sources: what a source means, and the ends and layers that sources are made of.
 #![tactic(auto)]
+
 mod daily;
 mod days;
 mod entry;

@@ -1,5 +1,6 @@
 // Tests of the calendar, the prices and the zones' sources; and that what a source answers is what it means.
 #![tactic(auto)]
+
 ghost use Rattle.std.specs.Prelude.{◌≡◌};
 ghost use Rattle.prices.specs.Sources.{reference_means, daily_means, monthly_means, share_means, toll_means};
 

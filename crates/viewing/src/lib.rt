@@ -1,5 +1,6 @@
 // A run for people to read: each call with its date and its answer, and how the run ended.
 #![tactic(auto)]
+
 mod entry;
 mod reading;
 mod tally;

@@ -1,5 +1,6 @@
 // Journal words: calls as words and back, and answers as words and back.
 #![tactic(auto)]
+
 mod decoded;
 mod encoded;
 mod fault;

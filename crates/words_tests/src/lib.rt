@@ -1,4 +1,5 @@
 // Tests of the journal words.
 #![tactic(auto)]
+
 #[cfg(test)]
 mod tests;

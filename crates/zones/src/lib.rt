@@ -1,5 +1,6 @@
 // The zones: their price sources, the northern ledger, and the worked figures.
 #![tactic(auto)]
+
 mod north;
 mod sources;
 mod worked;

@@ -5,7 +5,7 @@ use Rattle.balancing.proofs.egd.EgdBalancingRule.edges.Goals as goal
 
 pub invariant_of-result : goal.invariant_of-result
 invariant_of-result c = let h = egd_most c.args.mdv c.args.days in record {
-      ordered = omega (arith, ints);
-      floor = omega (arith, ints);
-      ceiling = omega (arith, ints);
-    }
+  ordered = omega (arith, ints);
+  floor = omega (arith, ints);
+  ceiling = omega (arith, ints);
+}
