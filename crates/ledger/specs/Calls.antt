@@ -13,7 +13,7 @@ use Rattle.calls.specs.declared.call.Call.{Call}
 use Rattle.calls.specs.declared.call.Call.TheVariants.{Day, Open, Post, Statement}
 use Rattle.calls.specs.declared.call.Answer.{Answer}
 use Rattle.calls.specs.declared.call.Answer.TheVariants.{Done, Stated, Refused}
-use Rattle.calls.specs.declared.call.Stated.{Stated as Statement-of}
+use Rattle.calls.specs.declared.call.Stated.{Stated as StatementOf}
 use Rattle.calls.specs.declared.refusal.Refusal.{Refusal}
 use Rattle.calls.specs.declared.refusal.Refusal.TheVariants.{LastDay, NoTerm, WrongStatus, OutOfRange, Full, Overlap, Untimely, GasLimit, ChargeLimit, Lacking}
 
@@ -32,7 +32,7 @@ abbrev pub answered : Result ℕ Refusal → Answer
 answered (Ok n) = Done n
 answered (Err e) = Refused e
 
-abbrev pub stated : Result Statement-of Refusal → Answer
+abbrev pub stated : Result StatementOf Refusal → Answer
 stated (Ok s) = Stated s
 stated (Err e) = Refused e
 

@@ -1,7 +1,7 @@
 -- What holds of a mean over the days of a span.
 use Rattle.std.specs.Prelude.{◌≡◌, ℕ, zero, suc, ◌+◌, ◌-◌, ◌*◌, ◌<◌, ◌≤◌, true, List, [], ◌∷◌, length, is_some, IfOk, Some, None, Ok, Err, sum, Option, Result, refl}
 use Rattle.std.proofs.Common.{ap, ◌∙◌, subst, inl, inr, div-lt_iff_lt-mul, le-div_iff_mul-le, mul_comm, mul_assoc, add-mul, zero-mul, suc-mul, arith}
-use Rattle.std.specs.List.{range_with_len, AllByRecursion as All}
+use Rattle.std.specs.List.{range_with_len, AllByRecursion}
 use Rattle.std.proofs.lemmas.List.Sums.{sum_by-cons}
 use Rattle.std.proofs.ByRecursion.{sum_by_le}
 use Rattle.std.proofs.lemmas.Bool.{cases_eq}
@@ -28,18 +28,18 @@ rounded_ge total n m some h =
     let e : m * (2 * n) ≤ 2 * total + n = rw (twice m n) (omega arith) in
     (le-div_iff_mul-le k).1 e
 
-sum_ge : (m : ℕ) (ps : List ℕ) → All (λ p. m ≤ p) ps → length ps * m ≤ sum ps
+sum_ge : (m : ℕ) (ps : List ℕ) → AllByRecursion (λ p. m ≤ p) ps → length ps * m ≤ sum ps
 sum_ge m [] h = rw zero-mul (omega arith)
 sum_ge m (p ∷ ps) h = rw suc-mul (omega (arith, h.0, sum_ge m ps h.1, sum_by-cons (λ x. x) p ps))
 
 module _ (price : ℕ → Option ℕ) where
   -- what holds of each day's price holds of each price collected
-  all_led : (P : ℕ → Type 0) (d : ℕ) (o : Option ℕ) (r : Result (List ℕ) Lack) → Priced P o → IfOk r (All P) → IfOk (led_by d o r) (All P)
+  all_led : (P : ℕ → Type 0) (d : ℕ) (o : Option ℕ) (r : Result (List ℕ) Lack) → Priced P o → IfOk r (AllByRecursion P) → IfOk (led_by d o r) (AllByRecursion P)
   all_led P d None r g h = tt
   all_led P d (Some p) (Ok ps) g h = (g, h)
   all_led P d (Some p) (Err l) g h = tt
 
-  all_on : (P : ℕ → Type 0) (a n : ℕ) → ((d : ℕ) → a ≤ d → d < a + n → Priced P (price d)) → IfOk (prices_on price (range_with_len a n)) (All P)
+  all_on : (P : ℕ → Type 0) (a n : ℕ) → ((d : ℕ) → a ≤ d → d < a + n → Priced P (price d)) → IfOk (prices_on price (range_with_len a n)) (AllByRecursion P)
   all_on P a zero f = tt
   all_on P a (suc n) f =
       all_led P a (price a) (prices_on price (range_with_len (a + 1) n)) (f a (omega arith) (omega arith))
@@ -80,7 +80,7 @@ module _ (price : ℕ → Option ℕ) where
 
   between_over : (from to : ℕ) (r : Result (List ℕ) Lack) → from ≤ to
       → IfOk r (λ ps. length ps ≡ to + 1 - from)
-      → ((P : ℕ → Type 0) → EachDay price from to P → IfOk r (All P))
+      → ((P : ℕ → Type 0) → EachDay price from to P → IfOk r (AllByRecursion P))
       → Between price from to (over mean_price r)
   between_over from to (Ok ps) f n all = (
     λ low h. rounded_ge (sum ps) (length ps) low (omega arith) (sum_ge low ps (all (λ p. low ≤ p) h)),
