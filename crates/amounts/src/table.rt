@@ -1,5 +1,6 @@
 // Adding to a row, and booking at a place of a lent table.
-ghost use Rattle.std.specs.Prelude.{◌≡◌, ◌^◌, ◌<◌, ◌≤◌, replicate, pos, ◌+ℤ◌, is_ok, IfOk, IfErr, MatchOption, unsigned_abs};
+ghost use Rattle.std.specs.Prelude.{◌≡◌, ◌^◌, ◌<◌, ◌≤◌, replicate, pos, ◌+ℤ◌, is_ok};
+ghost use Rattle.std.specs.Prelude.{IfOk, IfErr, MatchOption, unsigned_abs};
 ghost use Rattle.amounts.specs.Rows.{within, sums};
 ghost use Rattle.amounts.specs.Tables.{Booked, rows_of};
 
@@ -42,7 +43,8 @@ pub fn book<const N: usize, const LIMIT: u64>(
 // One place: what is had and what is added, if that is within the limit.
 fn added(have: i64, more: i64, limit: u64) -> Option<i64>
     requires { limit < 2 ^ 62 }
-    ensures { MatchOption result (limit < unsigned_abs (have +ℤ more)) (λ s. (s ≡ have +ℤ more) × (unsigned_abs s ≤ limit)) }
+    ensures { MatchOption result (limit < unsigned_abs (have +ℤ more))
+        (λ s. (s ≡ have +ℤ more) × (unsigned_abs s ≤ limit)) }
 {
     let sum = have.checked_add(more)?;
     if sum.unsigned_abs() > limit {

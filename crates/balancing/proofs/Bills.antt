@@ -13,7 +13,8 @@ pub least : (b : Band) (balance : ℤ) → LeastBill b balance (billed_of b bala
 least b balance v h = (grind (arith, ints), λ other. grind (arith, ints))
 
 -- The volume carried and the rest of the balance are its split.
-pub splits : (b : Band) (balance carried billed : ℤ) → b.lower ≤ℤ b.upper → carried ≡ carried_of b balance → billed ≡ balance -ℤ carried → Split b balance carried billed
+pub splits : (b : Band) (balance carried billed : ℤ) → b.lower ≤ℤ b.upper → carried ≡ carried_of b balance
+    → billed ≡ balance -ℤ carried → Split b balance carried billed
 splits b balance carried billed ordered k r =
     let bills : billed ≡ billed_of b balance = r ∙ ap (λ v. balance -ℤ v) k in
     record {
@@ -25,6 +26,7 @@ splits b balance carried billed ordered k r =
     }
 
 -- The split of a balance by a band is that of an equal balance by an equal band.
-pub split_same : {b d : Band} {x y carried billed : ℤ} → b ≡ d → x ≡ y → Split b x carried billed → Split d y carried billed
+pub split_same : {b d : Band} {x y carried billed : ℤ} → b ≡ d → x ≡ y → Split b x carried billed
+    → Split d y carried billed
 split_same {d = d} {x = x} {carried = carried} {billed = billed} p q s =
     subst (λ z. Split d z carried billed) q (subst (λ e. Split e x carried billed) p s)

@@ -10,10 +10,12 @@ carried_of b balance = cond (int_lt balance b.lower) b.lower (cond (int_lt b.upp
 abbrev pub billed_of : Band → ℤ → ℤ
 billed_of b balance = balance -ℤ carried_of b balance
 
--- Of the volumes that, billed, would bring the balance between the edges, none is smaller in size than this one, and every other is larger.
+-- Of the volumes that, billed, would bring the balance between the edges, none is smaller in size than this one, and
+-- every other is larger.
 abbrev pub LeastBill : Band → ℤ → ℤ → Type 0
 LeastBill b balance billed =
-    (v : ℤ) → Between b (balance -ℤ v) → (unsigned_abs billed ≤ unsigned_abs v) × (v ≢ billed → unsigned_abs billed < unsigned_abs v)
+    (v : ℤ) → Between b (balance -ℤ v) → (unsigned_abs billed ≤ unsigned_abs v)
+    × (v ≢ billed → unsigned_abs billed < unsigned_abs v)
 
 -- The volumes carried and billed are the split of the balance: those of the definitions above, and
 -- what is carried lies between the edges, carried plus billed is the balance, and no other bill would be as small.

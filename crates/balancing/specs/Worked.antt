@@ -3,7 +3,8 @@ use Rattle.std.specs.Prelude.{◌≡◌, pos, neg_ℤ}
 use Rattle.balancing.specs.Bills.{billed_of, carried_of}
 use Rattle.balancing.specs.Rules.{around, egd_band, north_band}
 
--- EGD at an MDV of 1,000 over 365 days has its edges 20,075 from 0: of a balance of 20,076 it bills 1, of −20,076 it bills −1, and of 20,075 nothing.
+-- EGD at an MDV of 1,000 over 365 days has its edges 20,075 from 0: of a balance of 20,076 it bills 1, of −20,076 it
+-- bills −1, and of 20,075 nothing.
 -- North carries nothing of a balance of −5, and bills −5.
 abbrev pub WorkedEdges : Type 0
 WorkedEdges =

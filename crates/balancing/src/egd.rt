@@ -15,7 +15,9 @@ pub struct Egd;
 impl BalancingRule for Egd {
     ghost band = { λ _ mdv days. egd_band mdv days };
 
-    ghost sound = { λ s mdv days. let h = egd_most mdv days in (Prim.grind (arith, ints), Prim.grind (arith, ints), Prim.grind (arith, ints)) };
+    ghost sound = { λ s mdv days.
+        let h = egd_most mdv days in
+        (Prim.grind (arith, ints), Prim.grind (arith, ints), Prim.grind (arith, ints)) };
 
     ghost outside = { Prim.search rules };
 

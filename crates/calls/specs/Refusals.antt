@@ -3,7 +3,9 @@ use Rattle.std.specs.Prelude.{ℕ, cond, Some, None, Option, ◌==◌}
 use Rattle.amounts.specs.declared.row.Fault.{Fault}
 use Rattle.amounts.specs.declared.row.Fault.TheVariants.{NoPlace, PastLimit}
 use Rattle.calls.specs.declared.refusal.Refusal.{Refusal}
-use Rattle.calls.specs.declared.refusal.Refusal.TheVariants.{BadWord, LastDay, NoTerm, WrongStatus, OutOfRange, Full, Overlap, Untimely, GasLimit, ChargeLimit, Lacking, NoRoom}
+use Rattle.calls.specs.declared.refusal.Refusal.TheVariants.{BadWord, LastDay, NoTerm, WrongStatus}
+use Rattle.calls.specs.declared.refusal.Refusal.TheVariants.{OutOfRange, Full, Overlap, Untimely}
+use Rattle.calls.specs.declared.refusal.Refusal.TheVariants.{GasLimit, ChargeLimit, Lacking, NoRoom}
 
 abbrev pub number_of : Refusal → ℕ
 number_of BadWord = 1

@@ -1,5 +1,6 @@
 -- Every answer of a ledger fits its words, by the ranges that the tables keep.
-use Rattle.std.proofs.Common.{◌≡◌, ℕ, ◌/◌, ◌<◌, ◌≤◌, Bool, true, eqb, ltb, leb, List, [], ◌∷◌, length, get_or, ℤ, pos, nat_abs, Ok, Err, Result, refl, arith}
+use Rattle.std.proofs.Common.{◌≡◌, ℕ, ◌/◌, ◌<◌, ◌≤◌, Bool, true, eqb, ltb, leb, List, [], ◌∷◌}
+use Rattle.std.proofs.Common.{length, get_or, ℤ, pos, nat_abs, Ok, Err, Result, refl, arith}
 use Rattle.std.proofs.lemmas.Bool.{cond_both, lt-ltb, ltb-false, leb-true, eq-eqb, and_from, and_parts, or_parts}
 use Rattle.amounts.specs.Rows.{within}
 use Rattle.calls.specs.Refusals.{lacking_day}
@@ -7,7 +8,8 @@ use Rattle.calls.specs.declared.call.Call.{Call}
 use Rattle.calls.specs.declared.call.Call.TheVariants.{Day, Open, Post, Statement}
 use Rattle.calls.specs.declared.refusal.Refusal.{Refusal}
 use Rattle.ledger.specs.Book.{State, Term, missing, term_at}
-use Rattle.ledger.specs.Calls.{Outcome, Meaning, first_of, step, day_refusals, day_done, open_refusals, open_done, post_refusals, post_done, owed, priced, lack_in}
+use Rattle.ledger.specs.Calls.{Outcome, Meaning, first_of, step, day_refusals, day_done}
+use Rattle.ledger.specs.Calls.{open_refusals, open_done, post_refusals, post_done, owed, priced, lack_in}
 use Rattle.ledger.specs.View.{Gas, Charges, view, entry}
 use Rattle.ledger.specs.declared.tables.Tables.{Tables}
 use Rattle.ledger.specs.declared.term.Term.{Term as Contract}
@@ -61,16 +63,19 @@ abbrev behind : List (Bool × Refusal) → List (Bool × Refusal)
 behind [] = []
 behind (r ∷ rs) = rs
 
-first_fits : (c : Call) (s : State) (rs : List (Bool × Refusal)) (o : Outcome) → Small rs → Fit c o → Fit c (first_of s rs o)
+first_fits : (c : Call) (s : State) (rs : List (Bool × Refusal)) (o : Outcome) → Small rs → Fit c o
+    → Fit c (first_of s rs o)
 first_fits c s [] o small h = h
-first_fits c s (r ∷ rs) o small h = cond_both r.0 _ _ (Fit c) (λ _. record { fits = small.0 }) (λ _. first_fits c s rs o small.1 h)
+first_fits c s (r ∷ rs) o small h =
+    cond_both r.0 _ _ (Fit c) (λ _. record { fits = small.0 }) (λ _. first_fits c s rs o small.1 h)
 
 lack_priced : (v n : ℕ) (r : Result ℕ Lack) → n ≤ 3401 → Fair n n r → ltb (lack_in (priced v r)).day 268435456 ≡ true
 lack_priced v n (Ok p) h fair = refl
 lack_priced v n (Err l) h fair = lt-ltb _ _ (omega (arith, fair.1, h))
 
 module _ (t : Tables) (m : Meaning) (fair : FairSource m.overrun) where
-  lack_small : (n d : ℕ) → Bounds (term_at (view t) n) → ltb (lack_in (owed m.overrun (term_at (view t) n) d)).day 268435456 ≡ true
+  lack_small : (n d : ℕ) → Bounds (term_at (view t) n)
+      → ltb (lack_in (owed m.overrun (term_at (view t) n) d)).day 268435456 ≡ true
   lack_small n d b =
       let x = term_at (view t) n in
       cond_both (leb x.mdv d) _ _ (λ (o : Result ℕ Lack). ltb (lack_in o).day 268435456 ≡ true) (λ _. refl)
@@ -80,13 +85,16 @@ module _ (t : Tables) (m : Meaning) (fair : FairSource m.overrun) where
   post_fits n d c =
       cond_both (missing (view t) n) _ _ (Fit (Post n d c)) (λ _. record { fits = refl }) (λ found.
       let b = term_holds t Bounds bounded n found in
-      first_fits (Post n d c) (view t) (behind (post_refusals m.overrun (view t) n d c)) (post_done m.overrun (view t) n d c)
+      first_fits (Post n d c) (view t) (behind (post_refusals m.overrun (view t) n d c))
+      (post_done m.overrun (view t) n d c)
       (refl, (refl, (refl, (refl, (lack_small n d b, (refl, tt))))))
       (record { fits = lt-ltb _ _ (omega (arith, b.ends)) }))
 
-  open_fits : (pool point mdv first last : ℕ) → Fit (Open pool point mdv first last) (step m (view t) (Open pool point mdv first last))
+  open_fits : (pool point mdv first last : ℕ)
+      → Fit (Open pool point mdv first last) (step m (view t) (Open pool point mdv first last))
   open_fits pool point mdv first last =
-      first_fits (Open pool point mdv first last) (view t) (open_refusals (view t) pool point mdv first last) (open_done (view t) pool point mdv first last)
+      first_fits (Open pool point mdv first last) (view t) (open_refusals (view t) pool point mdv first last)
+      (open_done (view t) pool point mdv first last)
       (refl, (refl, (refl, tt)))
       (record { fits = lt-ltb _ _ (omega (arith, term_count t, t.few)) })
 
@@ -94,18 +102,21 @@ module _ (t : Tables) (m : Meaning) (fair : FairSource m.overrun) where
   statement_fits n =
       cond_both (missing (view t) n) _ _ (Fit (Statement n)) (λ _. record { fits = refl }) (λ found.
       let b = term_holds t Bounds bounded n found in
-      let high : n ≤ length (view t).terms = ltb-false (length (view t).terms) n (or_parts (eqb n 0) (ltb (length (view t).terms) n) found).1 in
+      let high : n ≤ length (view t).terms =
+      ltb-false (length (view t).terms) n (or_parts (eqb n 0) (ltb (length (view t).terms) n) found).1 in
       record {
         fits = and_from _ _
             (and_from _ _ (lt-ltb n 268435456 (omega (arith, high, term_count t, t.few)))
             (and_from _ _ (lt-ltb (term_at (view t) n).pool 268435456 (omega (arith, b.pool)))
             (and_from _ _ (lt-ltb (term_at (view t) n).next 268435456 (omega (arith, b.ends)))
-            (and_from _ _ (lt-ltb (nat_abs (term_at (view t) n).balance) 268435456 (omega (arith, b.balance))) b.lines))))
+            (and_from _ _ (lt-ltb (nat_abs (term_at (view t) n).balance) 268435456 (omega (arith, b.balance)))
+            b.lines))))
             (eq-eqb _ _ b.five);
       })
 
 pub answers_fit_words : AnswersFit
-answers_fit_words t m fair Day = (first_fits Day (view t) (day_refusals (view t)) (day_done (view t)) (refl, tt) (record { fits = lt-ltb _ _ (omega (arith, t.ends)) })).fits
+answers_fit_words t m fair Day = (first_fits Day (view t) (day_refusals (view t)) (day_done (view t)) (refl, tt)
+    (record { fits = lt-ltb _ _ (omega (arith, t.ends)) })).fits
 answers_fit_words t m fair (Open pool point mdv first last) = (open_fits t m fair pool point mdv first last).fits
 answers_fit_words t m fair (Post n d c) = (post_fits t m fair n d c).fits
 answers_fit_words t m fair (Statement n) = (statement_fits t m fair n).fits

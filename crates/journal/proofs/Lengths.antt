@@ -5,7 +5,8 @@ use Rattle.calls.specs.declared.call.Call.{Call}
 use Rattle.calls.specs.declared.call.Call.TheVariants.{Day, Open, Post, Statement}
 use Rattle.calls.specs.declared.refusal.Refusal.{Refusal}
 use Rattle.ledger.specs.Book.{State, missing, term_at}
-use Rattle.ledger.specs.Calls.{Meaning, Outcome, first_of, day_refusals, day_done, open_refusals, open_done, post_refusals, post_done, statement_call, step}
+use Rattle.ledger.specs.Calls.{Meaning, Outcome, first_of, day_refusals, day_done, open_refusals}
+use Rattle.ledger.specs.Calls.{open_done, post_refusals, post_done, statement_call, step}
 use Rattle.words.specs.Writing.{answer_words, lines_words}
 
 -- an outcome whose answer has two words
@@ -24,7 +25,8 @@ two_each (x ∷ xs) = omega (arith, two_each xs)
 pub statement_short : (s : State) (n : ℕ) → missing s n ≡ true → 2 ≡ length (answer_words (statement_call s n).answer)
 statement_short s n h = sym (ap (λ (x : Outcome). length (answer_words x.answer)) (cond-true _ _ _ h))
 
-pub statement_long : (s : State) (n : ℕ) → missing s n ≡ false → length (term_at s n).lines ≡ 5 → 18 ≡ length (answer_words (statement_call s n).answer)
+pub statement_long : (s : State) (n : ℕ) → missing s n ≡ false → length (term_at s n).lines ≡ 5
+    → 18 ≡ length (answer_words (statement_call s n).answer)
 statement_long s n h five =
     let lines : length (lines_words (term_at s n).lines) ≡ 10 = omega (arith, two_each (term_at s n).lines, five) in
     sym (ap (λ (x : Outcome). length (answer_words x.answer)) (cond-false _ _ _ h) ∙ omega (arith, lines))
@@ -35,8 +37,10 @@ call_two m s Day h = two_of s (day_refusals s) (day_done s) (record { two = refl
 call_two m s (Open pool point mdv first last) h =
     two_of s (open_refusals s pool point mdv first last) (open_done s pool point mdv first last) (record { two = refl })
 call_two m s (Post term delivered consumed) h =
-    two_of s (post_refusals m.overrun s term delivered consumed) (post_done m.overrun s term delivered consumed) (record { two = refl })
+    two_of s (post_refusals m.overrun s term delivered consumed) (post_done m.overrun s term delivered consumed)
+    (record { two = refl })
 call_two m s (Statement n) h = absurd (h n refl)
 
-pub call_short : (m : Meaning) (s : State) (call : Call) → ((n : ℕ) → call ≡ Statement n → ⊥) → 2 ≡ length (answer_words (step m s call).answer)
+pub call_short : (m : Meaning) (s : State) (call : Call) → ((n : ℕ) → call ≡ Statement n → ⊥)
+    → 2 ≡ length (answer_words (step m s call).answer)
 call_short m s call h = (call_two m s call h).two

@@ -1,5 +1,6 @@
 -- How far in a stop stands: among the words that there are, or just past them.
-use Rattle.std.proofs.Common.{◌≡◌, ℕ, suc, ◌≤◌, eqb, List, [], ◌∷◌, length, Some, None, Ok, Err, Option, Result, subst, arith}
+use Rattle.std.proofs.Common.{◌≡◌, ℕ, suc, ◌≤◌, eqb, List, [], ◌∷◌, length, Some}
+use Rattle.std.proofs.Common.{None, Ok, Err, Option, Result, subst, arith}
 use Rattle.std.proofs.lemmas.Bool.{cond_both}
 use Rattle.words.specs.Kinds.{kind_in, kind_number, value_in}
 use Rattle.words.specs.Reading.{read_figures, further, called, with_shape, read_call}
@@ -19,7 +20,8 @@ figures_near : (ks : List Kind) (ws : List ℕ) → Near (length ws) (read_figur
 figures_near [] ws = tt
 figures_near (k ∷ ks) [] = omega arith
 figures_near (k ∷ ks) (w ∷ ws) =
-    cond_both (eqb (kind_in w) (kind_number k)) _ _ (Near (suc (length ws))) (λ _. further_near (length ws) (value_in w) (read_figures ks ws) (figures_near ks ws)) (λ _. omega arith)
+    cond_both (eqb (kind_in w) (kind_number k)) _ _ (Near (suc (length ws)))
+    (λ _. further_near (length ws) (value_in w) (read_figures ks ws) (figures_near ks ws)) (λ _. omega arith)
 
 called_near : (n k : ℕ) (r : Result (List ℕ) ℕ) → Near n r → Near (suc n) (called k r)
 called_near n k (Ok vs) h = tt
@@ -31,7 +33,8 @@ shape_near k (Some ks) ws = called_near (length ws) k (read_figures ks ws) (figu
 
 read_near : (ws : List ℕ) → Near (length ws) (read_call ws)
 read_near [] = omega arith
-read_near (w ∷ ws) = cond_both (eqb (kind_in w) 1) _ _ (Near (suc (length ws))) (λ _. shape_near (value_in w) (shape_of (value_in w)) ws) (λ _. omega arith)
+read_near (w ∷ ws) = cond_both (eqb (kind_in w) 1) _ _ (Near (suc (length ws)))
+    (λ _. shape_near (value_in w) (shape_of (value_in w)) ws) (λ _. omega arith)
 
 pub stop_near : (ws : List ℕ) (off : ℕ) → read_call ws ≡ Err off → off ≤ length ws
 stop_near ws off e = subst (Near (length ws)) e (read_near ws)

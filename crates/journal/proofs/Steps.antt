@@ -1,5 +1,6 @@
 -- One call of a run: passed over once it is read, stopped, or answered.
-use Rattle.std.proofs.Common.{◌≡◌, ℕ, zero, suc, ◌+◌, ◌-◌, ◌<◌, ◌≤◌, List, [], ◌∷◌, length, drop, Ok, Err, refl, ap, ◌∙◌, arith}
+use Rattle.std.proofs.Common.{◌≡◌, ℕ, zero, suc, ◌+◌, ◌-◌, ◌<◌, ◌≤◌, List, [], ◌∷◌}
+use Rattle.std.proofs.Common.{length, drop, Ok, Err, refl, ap, ◌∙◌, arith}
 use Rattle.std.proofs.lemmas.Bool.{lt-ltb, le-ltb, cond-true, cond-false}
 use Rattle.calls.specs.declared.call.Call.{Call}
 use Rattle.calls.specs.declared.refusal.Refusal.TheVariants.{BadWord, NoRoom}
@@ -11,13 +12,16 @@ use Rattle.journal.specs.Runs.{stopped, answering, made, go, run_from}
 
 module _ (m : Meaning) where
   -- the words of a call are passed over
-  pub skip_all : (ws : List ℕ) (place k room : ℕ) (s : State) → run_from m ws place k room s ≡ run_from m (drop k ws) (place + k) 0 room s
+  pub skip_all : (ws : List ℕ) (place k room : ℕ) (s : State)
+      → run_from m ws place k room s ≡ run_from m (drop k ws) (place + k) 0 room s
   skip_all [] place zero room s = refl
   skip_all [] place (suc k) room s = refl
   skip_all (w ∷ ws) place zero room s = ap (λ p. run_from m (w ∷ ws) p 0 room s) (omega arith)
-  skip_all (w ∷ ws) place (suc k) room s = skip_all ws (place + 1) k room s ∙ ap (λ p. run_from m (drop k ws) p 0 room s) (omega arith)
+  skip_all (w ∷ ws) place (suc k) room s = skip_all ws (place + 1) k room s
+      ∙ ap (λ p. run_from m (drop k ws) p 0 room s) (omega arith)
 
-  past_call : (w : ℕ) (ws : List ℕ) (place used room : ℕ) (s : State) → 1 ≤ used → run_from m ws (place + 1) (used - 1) room s ≡ run_from m (drop used (w ∷ ws)) (place + used) 0 room s
+  past_call : (w : ℕ) (ws : List ℕ) (place used room : ℕ) (s : State) → 1 ≤ used
+      → run_from m ws (place + 1) (used - 1) room s ≡ run_from m (drop used (w ∷ ws)) (place + used) 0 room s
   past_call w ws place used room s h =
       let e : suc (used - 1) ≡ used = omega arith in
       skip_all ws (place + 1) (used - 1) room s
@@ -25,21 +29,32 @@ module _ (m : Meaning) where
       ∙ ap (λ u. run_from m (drop u (w ∷ ws)) (place + used) 0 room s) e
 
   -- reading stops at a word
-  pub run_wrong : (ws : List ℕ) (place room : ℕ) (s : State) (at : ℕ) → 0 < length ws → read_call ws ≡ Err at → run_from m ws place 0 room s ≡ stopped s BadWord (place + at)
+  pub run_wrong : (ws : List ℕ) (place room : ℕ) (s : State) (at : ℕ) → 0 < length ws → read_call ws ≡ Err at
+      → run_from m ws place 0 room s ≡ stopped s BadWord (place + at)
   run_wrong [] place room s at h e = absurd (omega (arith, h))
-  run_wrong (w ∷ ws) place room s at h e = ap (λ r. go m place room s r (λ skip t left. run_from m ws (place + 1) skip left t)) e
+  run_wrong (w ∷ ws) place room s at h e =
+      ap (λ r. go m place room s r (λ skip t left. run_from m ws (place + 1) skip left t)) e
 
-  run_read : (w : ℕ) (ws : List ℕ) (place room : ℕ) (s : State) (read : Call × ℕ) → read_call (w ∷ ws) ≡ Ok read → run_from m (w ∷ ws) place 0 room s ≡ made place room s (step m s read.0) (λ t left. run_from m ws (place + 1) (read.1 - 1) left t)
-  run_read w ws place room s read e = ap (λ r. go m place room s r (λ skip t left. run_from m ws (place + 1) skip left t)) e
+  run_read : (w : ℕ) (ws : List ℕ) (place room : ℕ) (s : State) (read : Call × ℕ) → read_call (w ∷ ws) ≡ Ok read
+      → run_from m (w ∷ ws) place 0 room s
+      ≡ made place room s (step m s read.0) (λ t left. run_from m ws (place + 1) (read.1 - 1) left t)
+  run_read w ws place room s read e =
+      ap (λ r. go m place room s r (λ skip t left. run_from m ws (place + 1) skip left t)) e
 
   -- the call's answer does not fit
-  pub run_full : (ws : List ℕ) (place room : ℕ) (s : State) (read : Call × ℕ) → 0 < length ws → read_call ws ≡ Ok read → room < length (answer_words (step m s read.0).answer) → run_from m ws place 0 room s ≡ stopped s NoRoom place
+  pub run_full : (ws : List ℕ) (place room : ℕ) (s : State) (read : Call × ℕ) → 0 < length ws → read_call ws ≡ Ok read
+      → room < length (answer_words (step m s read.0).answer) → run_from m ws place 0 room s ≡ stopped s NoRoom place
   run_full [] place room s read h e f = absurd (omega (arith, h))
   run_full (w ∷ ws) place room s read h e f = run_read w ws place room s read e ∙ cond-true _ _ _ (lt-ltb room _ f)
 
   -- the call is answered, and the rest goes on after its words
-  pub run_more : (ws : List ℕ) (place room : ℕ) (s : State) (read : Call × ℕ) → 0 < length ws → read_call ws ≡ Ok read → 1 ≤ read.1 → length (answer_words (step m s read.0).answer) ≤ room → run_from m ws place 0 room s ≡ answering (answer_words (step m s read.0).answer) (run_from m (drop read.1 ws) (place + read.1) 0 (room - length (answer_words (step m s read.0).answer)) (step m s read.0).after)
+  pub run_more : (ws : List ℕ) (place room : ℕ) (s : State) (read : Call × ℕ) → 0 < length ws → read_call ws ≡ Ok read
+      → 1 ≤ read.1 → length (answer_words (step m s read.0).answer) ≤ room
+      → run_from m ws place 0 room s ≡ answering (answer_words (step m s read.0).answer)
+      (run_from m (drop read.1 ws) (place + read.1) 0 (room - length (answer_words (step m s read.0).answer))
+      (step m s read.0).after)
   run_more [] place room s read h e some f = absurd (omega (arith, h))
   run_more (w ∷ ws) place room s read h e some f =
       let a = answer_words (step m s read.0).answer in
-      run_read w ws place room s read e ∙ cond-false _ _ _ (le-ltb room _ f) ∙ ap (answering a) (past_call w ws place read.1 (room - length a) (step m s read.0).after some)
+      run_read w ws place room s read e ∙ cond-false _ _ _ (le-ltb room _ f)
+      ∙ ap (answering a) (past_call w ws place read.1 (room - length a) (step m s read.0).after some)

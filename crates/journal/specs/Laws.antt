@@ -15,4 +15,5 @@ FairSource q = (p : Point) (from to : ℕ) → 1 ≤ from → from ≤ to → to
 -- Every answer is one that its call can have, and its figures fit 28 bits: written as words and read back beside its
 -- call, it is the same answer.
 abbrev pub AnswersFit : Type 0
-AnswersFit = (t : Tables) (m : Meaning) → FairSource m.overrun → (c : Call) → answer_fits c (step m (view t) c).answer ≡ true
+AnswersFit = (t : Tables) (m : Meaning) → FairSource m.overrun → (c : Call)
+    → answer_fits c (step m (view t) c).answer ≡ true

@@ -1,5 +1,6 @@
 -- What running a journal comes to, over the book: the answers' words, the state after, and where and why it stopped.
-use Rattle.std.specs.Prelude.{◌≡◌, ℕ, zero, suc, ◌+◌, ◌-◌, cond, List, [], ◌∷◌, ◌++◌, length, drop, Some, None, Ok, Err, Option, Result, nat_lt}
+use Rattle.std.specs.Prelude.{◌≡◌, ℕ, zero, suc, ◌+◌, ◌-◌, cond, List, [], ◌∷◌, ◌++◌}
+use Rattle.std.specs.Prelude.{length, drop, Some, None, Ok, Err, Option, Result, nat_lt}
 use Rattle.calls.specs.declared.call.Call.{Call}
 use Rattle.calls.specs.declared.refusal.Refusal.{Refusal}
 use Rattle.calls.specs.declared.refusal.Refusal.TheVariants.{BadWord, OutOfRange, NoRoom}
@@ -54,4 +55,5 @@ pub record Runs (e : Ending) (r : Ran) (before after : List ℕ) (s : State) : T
 
 -- A run that stopped at a place, with so many words written.
 abbrev pub stopped_at : ℕ → Refusal → ℕ → Ran
-stopped_at written refusal place = record { written = written; stop = Some (record { refusal = refusal; place = place }) }
+stopped_at written refusal place = record
+    { written = written; stop = Some (record { refusal = refusal; place = place }) }

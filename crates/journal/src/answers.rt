@@ -32,7 +32,9 @@ fn statement_len(tables: &Tables, term: u32) -> usize
 pub(crate) fn put(answers: &mut [u32], at: usize, answer: &Encoded)
     requires room { at + answer.now.len ≤ length answers.old }
     requires whole { answer.now.len ≤ 18 }
-    ensures { answers.new ≡ take at answers.old ++ (take answer.now.len answer.now.words ++ drop (at + answer.now.len) answers.old) }
+    ensures { answers.new ≡
+        take at answers.old
+        ++ (take answer.now.len answer.now.words ++ drop (at + answer.now.len) answers.old) }
 {
     for i in 0..answer.len {
         answers[at + i] = answer.words[i];

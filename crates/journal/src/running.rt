@@ -19,7 +19,10 @@ pub fn run<B: BalancingRule, O: PriceSource, S: PriceSource, E: PriceSource>(
     words: &[u32],
     answers: &mut [u32],
 ) -> Ran
-    ensures ran { Runs (run (meaning B.BalancingRule.band O.PriceSource.quote S.PriceSource.quote E.PriceSource.quote ledger.old.zone) words.now (length answers.old) (view ledger.old.tables)) result answers.old answers.new (view ledger.new.tables) }
+    ensures ran { Runs
+        (run (meaning B.BalancingRule.band O.PriceSource.quote S.PriceSource.quote E.PriceSource.quote ledger.old.zone)
+        words.now (length answers.old) (view ledger.old.tables))
+        result answers.old answers.new (view ledger.new.tables) }
     ensures near { IfSome result.stop (λ s. s.place ≤ 8192) }
     ensures zone { ledger.new.zone ≡ ledger.old.zone }
 {

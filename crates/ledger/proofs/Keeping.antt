@@ -7,7 +7,8 @@ use Rattle.calls.specs.declared.call.Call.{Call}
 use Rattle.calls.specs.declared.call.Call.TheVariants.{Day, Open, Post, Statement}
 use Rattle.calls.specs.declared.refusal.Refusal.{Refusal}
 use Rattle.ledger.specs.Book.{State}
-use Rattle.ledger.specs.Calls.{Outcome, Meaning, Meets, first_of, step, day_refusals, day_done, open_refusals, open_done, post_refusals, post_done, statement_refusals, statement_done}
+use Rattle.ledger.specs.Calls.{Outcome, Meaning, Meets, first_of, step, day_refusals, day_done, open_refusals}
+use Rattle.ledger.specs.Calls.{open_done, post_refusals, post_done, statement_refusals, statement_done}
 use Rattle.ledger.specs.Laws.{Keeps}
 
 -- the outcome of a call keeps the state where it is a refusal
@@ -15,7 +16,8 @@ Kept : State → Outcome → Type 0
 Kept s o = Keeps s o.answer o.after
 
 -- a list of refusals keeps it, if what is done otherwise is no refusal
-kept_by : (s : State) (rs : List (Bool × Refusal)) (o : Outcome) → ((r : Refusal) → o.answer ≡ Refused r → ⊥) → Kept s (first_of s rs o)
+kept_by : (s : State) (rs : List (Bool × Refusal)) (o : Outcome) → ((r : Refusal) → o.answer ≡ Refused r → ⊥)
+    → Kept s (first_of s rs o)
 unfolding Kept
 kept_by s [] o never = λ r e. absurd (never r e)
 kept_by s (x ∷ rs) o never = cond_both x.0 _ _ (Kept s) (λ _. λ r e. refl) (λ _. kept_by s rs o never)
@@ -25,9 +27,14 @@ done_never n r e = let z : ◌≡◌ {A = ℕ} 0 1 = cc in omega arith
 
 step_keeps : (m : Meaning) (s : State) (c : Call) → Kept s (step m s c)
 step_keeps m s Day = kept_by s (day_refusals s) (day_done s) (λ r e. done_never _ r e)
-step_keeps m s (Open pool point mdv first last) = kept_by s (open_refusals s pool point mdv first last) (open_done s pool point mdv first last) (λ r e. done_never _ r e)
-step_keeps m s (Post term delivered consumed) = kept_by s (post_refusals m.overrun s term delivered consumed) (post_done m.overrun s term delivered consumed) (λ r e. done_never _ r e)
-step_keeps m s (Statement term) = kept_by s (statement_refusals s term) (statement_done s term) (λ r e. let z : ◌≡◌ {A = ℕ} 0 1 = cc in omega arith)
+step_keeps m s (Open pool point mdv first last) =
+    kept_by s (open_refusals s pool point mdv first last) (open_done s pool point mdv first last)
+    (λ r e. done_never _ r e)
+step_keeps m s (Post term delivered consumed) =
+    kept_by s (post_refusals m.overrun s term delivered consumed) (post_done m.overrun s term delivered consumed)
+    (λ r e. done_never _ r e)
+step_keeps m s (Statement term) = kept_by s (statement_refusals s term) (statement_done s term)
+    (λ r e. let z : ◌≡◌ {A = ℕ} 0 1 = cc in omega arith)
 
 -- what meets the book's step keeps the state where it is refused
 pub meets_keeps : (m : Meaning) (s t : State) (c : Call) (a : Answer) → Meets (step m s c) a t → Keeps s a t

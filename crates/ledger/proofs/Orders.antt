@@ -6,9 +6,11 @@ use Rattle.calls.specs.declared.call.Answer.{Answer}
 use Rattle.calls.specs.declared.call.Answer.TheVariants.{Refused}
 use Rattle.calls.specs.declared.refusal.Refusal.{Refusal}
 
-pub refuses : (b : Bool) (r : Refusal) (s : State) (o : Outcome) → b ≡ true → Meets (cond b (record { answer = Refused r; after = s }) o) (Refused r) s
+pub refuses : (b : Bool) (r : Refusal) (s : State) (o : Outcome) → b ≡ true
+    → Meets (cond b (record { answer = Refused r; after = s }) o) (Refused r) s
 refuses true r s o e = record { answers = refl; leaves = refl }
-refuses false r s o e = subst (λ b. Meets (cond b (record { answer = Refused r; after = s }) o) (Refused r) s) (sym e) (record { answers = refl; leaves = refl })
+refuses false r s o e = subst (λ b. Meets (cond b (record { answer = Refused r; after = s }) o) (Refused r) s) (sym e)
+    (record { answers = refl; leaves = refl })
 
 pub passes : (b : Bool) (x o : Outcome) (a : Answer) (s : State) → b ≡ false → Meets o a s → Meets (cond b x o) a s
 passes b x o a s e m = subst (λ v. Meets (cond v x o) a s) (sym e) m

@@ -1,5 +1,6 @@
 -- The plain book: a state of its own, and what can be read off it. It never sees a table of the code.
-use Rattle.std.specs.Prelude.{ℕ, ◌-◌, Bool, false, cond, ◌&&◌, ◌||◌, List, [], ◌∷◌, length, replicate, ℤ, pos, ◌==◌, nat_le, nat_lt, slice_index_or}
+use Rattle.std.specs.Prelude.{ℕ, ◌-◌, Bool, false, cond, ◌&&◌, ◌||◌, List, [], ◌∷◌, length}
+use Rattle.std.specs.Prelude.{replicate, ℤ, pos, ◌==◌, nat_le, nat_lt, slice_index_or}
 use Rattle.ledger.specs.declared.allowances.Allowances.{Allowances}
 use Rattle.prices.specs.declared.point.Point.{Point}
 use Rattle.prices.specs.declared.point.Point.TheVariants.{Western}
@@ -35,7 +36,16 @@ with_terms s ts = record { day = s.day; allowances = s.allowances; terms = ts }
 -- A term as it is opened: nothing is posted, banked or owed.
 abbrev pub opened : ℕ → Point → ℕ → ℕ → ℕ → Term
 opened pool point mdv first last =
-    record { pool = pool; point = point; mdv = mdv; first = first; last = last; next = first; balance = pos 0; lines = replicate 5 (pos 0) }
+    record {
+      pool = pool;
+      point = point;
+      mdv = mdv;
+      first = first;
+      last = last;
+      next = first;
+      balance = pos 0;
+      lines = replicate 5 (pos 0);
+    }
 
 -- what is read where there is no such term
 abbrev pub no_term : Term

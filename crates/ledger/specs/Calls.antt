@@ -1,5 +1,6 @@
 -- The calls: each as its refusals with their conditions, in their order, and what a done call answers and changes.
-use Rattle.std.specs.Prelude.{◌≡◌, ℕ, ◌+◌, ◌-◌, ◌*◌, Bool, cond, not, ◌&&◌, ◌||◌, List, [], ◌∷◌, ◌++◌, length, ℤ, pos, ◌+ℤ◌, ◌-ℤ◌, is_some, is_err, Ok, Err, Result, nat_le, nat_lt, slice_set}
+use Rattle.std.specs.Prelude.{◌≡◌, ℕ, ◌+◌, ◌-◌, ◌*◌, Bool, cond, not, ◌&&◌, ◌||◌, List, [], ◌∷◌, ◌++◌, length, ℤ}
+use Rattle.std.specs.Prelude.{pos, ◌+ℤ◌, ◌-ℤ◌, is_some, is_err, Ok, Err, Result, nat_le, nat_lt, slice_set}
 use Rattle.std.specs.Option.{unwrap_or}
 use Rattle.amounts.specs.Rows.{within, sums}
 use Rattle.balancing.specs.Bands.{Band}
@@ -15,7 +16,8 @@ use Rattle.calls.specs.declared.call.Answer.{Answer}
 use Rattle.calls.specs.declared.call.Answer.TheVariants.{Done, Stated, Refused}
 use Rattle.calls.specs.declared.call.Stated.{Stated as StatementOf}
 use Rattle.calls.specs.declared.refusal.Refusal.{Refusal}
-use Rattle.calls.specs.declared.refusal.Refusal.TheVariants.{LastDay, NoTerm, WrongStatus, OutOfRange, Full, Overlap, Untimely, GasLimit, ChargeLimit, Lacking}
+use Rattle.calls.specs.declared.refusal.Refusal.TheVariants.{LastDay, NoTerm, WrongStatus, OutOfRange, Full}
+use Rattle.calls.specs.declared.refusal.Refusal.TheVariants.{Overlap, Untimely, GasLimit, ChargeLimit, Lacking}
 
 -- What a call answers, and the state after it.
 pub record Outcome : Type 0 where
@@ -80,7 +82,8 @@ open_done s pool point mdv first last =
     }
 
 abbrev pub open_call : State → ℕ → ℕ → ℕ → ℕ → ℕ → Outcome
-open_call s pool point mdv first last = first_of s (open_refusals s pool point mdv first last) (open_done s pool point mdv first last)
+open_call s pool point mdv first last =
+    first_of s (open_refusals s pool point mdv first last) (open_done s pool point mdv first last)
 
 -- the volume at a price
 abbrev pub priced : ℕ → Result ℕ Lack → Result ℕ Lack
@@ -115,7 +118,16 @@ charged t m = sums t.lines (overrun_line m)
 
 abbrev pub posted : Term → ℤ → List ℤ → Term
 posted t balance lines =
-    record { pool = t.pool; point = t.point; mdv = t.mdv; first = t.first; last = t.last; next = t.next + 1; balance = balance; lines = lines }
+    record {
+      pool = t.pool;
+      point = t.point;
+      mdv = t.mdv;
+      first = t.first;
+      last = t.last;
+      next = t.next + 1;
+      balance = balance;
+      lines = lines;
+    }
 
 -- post: books the term's next unposted day and answers it.
 abbrev pub post_refusals : Quote → State → ℕ → ℕ → ℕ → List (Bool × Refusal)
@@ -141,7 +153,8 @@ post_done overrun s n delivered consumed =
     }
 
 abbrev pub post_call : Quote → State → ℕ → ℕ → ℕ → Outcome
-post_call overrun s n delivered consumed = first_of s (post_refusals overrun s n delivered consumed) (post_done overrun s n delivered consumed)
+post_call overrun s n delivered consumed =
+    first_of s (post_refusals overrun s n delivered consumed) (post_done overrun s n delivered consumed)
 
 -- statement: states the term's number, pool, status, next unposted day, balance, gas on offer and lines.
 abbrev pub statement_refusals : State → ℕ → List (Bool × Refusal)

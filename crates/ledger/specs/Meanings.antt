@@ -5,6 +5,7 @@ use Rattle.prices.specs.Quotes.{Quote}
 use Rattle.ledger.specs.Calls.{Meaning}
 use Rattle.ledger.specs.declared.zone.Zone.{Zone}
 
-abbrev pub meaning : {B O S E : Type 0} → (B → ℕ → ℕ → Band) → (O → Quote) → (S → Quote) → (E → Quote) → Zone B O S E → Meaning
+abbrev pub meaning : {B O S E : Type 0} → (B → ℕ → ℕ → Band) → (O → Quote) → (S → Quote) → (E → Quote) → Zone B O S E
+    → Meaning
 meaning band overrun shortage excess z =
     record { band = band z.rule; overrun = overrun z.overrun; shortage = shortage z.shortage; excess = excess z.excess }

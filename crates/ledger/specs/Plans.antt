@@ -1,5 +1,6 @@
 -- What a posting's plan hands on: the tests that are passed, and the part of the book's call that is left.
-use Rattle.std.specs.Prelude.{◌≡◌, ℕ, ◌<◌, ◌≤◌, true, not, List, [], ◌∷◌, ℤ, pos, ◌+ℤ◌, is_err, vec_items, vec_len, Result, slice_index_or, slice_set}
+use Rattle.std.specs.Prelude.{◌≡◌, ℕ, ◌<◌, ◌≤◌, true, not, List, [], ◌∷◌, ℤ, pos, ◌+ℤ◌}
+use Rattle.std.specs.Prelude.{is_err, vec_items, vec_len, Result, slice_index_or, slice_set}
 use Rattle.amounts.specs.Rows.{within, sums}
 use Rattle.amounts.specs.Tables.{rows_of, grown}
 use Rattle.prices.specs.Quotes.{Quote}
@@ -42,8 +43,12 @@ charging t p m =
     first_of (view t)
     ((not (within 100000000000000 (sums (lines_row t p.at) (overrun_line m))), ChargeLimit)
     ∷ [])
-    (record { answer = Done p.term.next; after = with_terms (view t) (slice_set (view t).terms p.at (booked_term t p m)) })
+    (record {
+      answer = Done p.term.next;
+      after = with_terms (view t) (slice_set (view t).terms p.at (booked_term t p m));
+    })
 
 -- what is left of the call once the posting is ready
 abbrev pub pricing : Quote → Tables → Posting → Outcome
-pricing q t p = first_of (view t) ((is_err (due q p), Lacking (lack_in (due q p))) ∷ []) (charging t p (micros (due q p)))
+pricing q t p = first_of (view t) ((is_err (due q p), Lacking (lack_in (due q p))) ∷ [])
+    (charging t p (micros (due q p)))

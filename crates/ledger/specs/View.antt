@@ -16,7 +16,16 @@ Charges = Row 5 100000000000000
 -- A term of the book: the contract with its row of gas and its row of charges.
 abbrev pub entry : Contract → List ℤ → List ℤ → Term
 entry t gas lines =
-    record { pool = t.pool; point = t.point; mdv = t.mdv; first = t.first; last = t.last; next = t.next; balance = slice_index_or gas 0 (pos 0); lines = lines }
+    record {
+      pool = t.pool;
+      point = t.point;
+      mdv = t.mdv;
+      first = t.first;
+      last = t.last;
+      next = t.next;
+      balance = slice_index_or gas 0 (pos 0);
+      lines = lines;
+    }
 
 abbrev pub entries : List Contract → List (List ℤ) → List (List ℤ) → List Term
 entries [] gs ls = []
@@ -28,7 +37,8 @@ abbrev pub view : Tables → State
 view t = record {
   day = t.day;
   allowances = t.allowances;
-  terms = entries (vec_items t.terms) (rows_of 1 200000000 (vec_items t.gas)) (rows_of 5 100000000000000 (vec_items t.lines));
+  terms = entries (vec_items t.terms) (rows_of 1 200000000 (vec_items t.gas))
+      (rows_of 5 100000000000000 (vec_items t.lines));
 }
 
 -- `shares` of the book, at a contract

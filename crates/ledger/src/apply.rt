@@ -32,7 +32,9 @@ fn statement(res: Result<Stated, Refusal>) -> Answer
 impl<B: BalancingRule, O: PriceSource, S: PriceSource, E: PriceSource> Ledger<B, O, S, E> {
     // Books a term's next unposted day and answers it.
     fn post(&mut self, term: u32, delivered: u32, consumed: u32) -> Result<u32, Refusal>
-        ensures call { Meets (post_call (O.PriceSource.quote self.old.zone.overrun) (view self.old.tables) term delivered consumed) (answered result) (view self.new.tables) }
+        ensures call { Meets
+            (post_call (O.PriceSource.quote self.old.zone.overrun) (view self.old.tables) term delivered consumed)
+            (answered result) (view self.new.tables) }
         ensures zone { self.new.zone ≡ self.old.zone }
     {
         let posting = self.tables.plan_post(term, delivered, consumed)?;
@@ -42,7 +44,10 @@ impl<B: BalancingRule, O: PriceSource, S: PriceSource, E: PriceSource> Ledger<B,
 
     // The call, one row for each.
     fn make(&mut self, call: Call) -> Answer
-        ensures call { Meets (step (meaning B.BalancingRule.band O.PriceSource.quote S.PriceSource.quote E.PriceSource.quote self.old.zone) (view self.old.tables) call) result (view self.new.tables) }
+        ensures call { Meets
+            (step (meaning B.BalancingRule.band O.PriceSource.quote S.PriceSource.quote E.PriceSource.quote self.old.zone)
+            (view self.old.tables) call)
+            result (view self.new.tables) }
         ensures zone { self.new.zone ≡ self.old.zone }
     {
         match call {
@@ -65,7 +70,10 @@ impl<B: BalancingRule, O: PriceSource, S: PriceSource, E: PriceSource> Ledger<B,
 
     // Makes a call: its answer and the state after it are the book's, and a refused call changes nothing.
     pub fn apply(&mut self, call: Call) -> Answer
-        ensures call { Meets (step (meaning B.BalancingRule.band O.PriceSource.quote S.PriceSource.quote E.PriceSource.quote self.old.zone) (view self.old.tables) call) result (view self.new.tables) }
+        ensures call { Meets
+            (step (meaning B.BalancingRule.band O.PriceSource.quote S.PriceSource.quote E.PriceSource.quote self.old.zone)
+            (view self.old.tables) call)
+            result (view self.new.tables) }
         ensures keeps { Keeps (view self.old.tables) result (view self.new.tables) }
         ensures zone { self.new.zone ≡ self.old.zone }
     {

@@ -10,7 +10,8 @@ pub(crate) fn enter<const N: usize, const LIMIT: u64>(
     at: usize,
     more: &[i64; N],
 ) -> Result<(), Fault<LIMIT>>
-    ensures booked { Booked LIMIT (rows_of N LIMIT table.old.items) at more.now result (rows_of N LIMIT table.new.items) }
+    ensures booked { Booked LIMIT (rows_of N LIMIT table.old.items) at more.now result
+        (rows_of N LIMIT table.new.items) }
     ensures len { vec_len table.new ≡ vec_len table.old }
     ensures capacity { vec_capacity table.new ≡ vec_capacity table.old }
 {

@@ -45,7 +45,9 @@ impl<B: Drop, O: Drop, S: Drop, E: Drop> Ledger<B, O, S, E> {
         zone: Zone<B, O, S, E>,
         allowances: Allowances,
     ) -> Result<Ledger<B, O, S, E>, NotMade>
-        ensures { MatchResult result (λ l. (allowed allowances ≡ true) × (view l.tables ≡ new_book allowances) × (l.zone ≡ zone)) (Unmade allowances) }
+        ensures { MatchResult result
+            (λ l. (allowed allowances ≡ true) × (view l.tables ≡ new_book allowances) × (l.zone ≡ zone))
+            (Unmade allowances) }
     {
         if !allowances.in_range() {
             return Err(NotMade::Refused(Refusal::OutOfRange));

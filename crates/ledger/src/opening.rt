@@ -1,5 +1,6 @@
 // The call open.
-ghost use Rattle.std.specs.Prelude.{◌≡◌, ◌+◌, ◌<◌, ◌≤◌, [], ◌∷◌, ◌++◌, length, replicate, pos, is_some, IfSome, vec_len};
+ghost use Rattle.std.specs.Prelude.{◌≡◌, ◌+◌, ◌<◌, ◌≤◌, [], ◌∷◌, ◌++◌, length};
+ghost use Rattle.std.specs.Prelude.{replicate, pos, is_some, IfSome, vec_len};
 ghost use Rattle.std.specs.Option.{unwrap_or};
 ghost use Rattle.prices.specs.Points.{point_at};
 ghost use Rattle.prices.specs.declared.point.Point.TheVariants.{Western};
@@ -18,7 +19,9 @@ impl Term {
     fn opened(today: u32, pool: u32, point: u32, mdv: u32, first: u32, last: u32) -> Option<Term>
         requires { 1 ≤ today }
         ensures test { is_some result ≡ in_range today pool point mdv first last }
-        ensures made { IfSome result (λ t. entry t (replicate 1 (pos 0)) (replicate 5 (pos 0)) ≡ opened pool (unwrap_or (point_at point) Western) mdv first last) }
+        ensures made { IfSome result (λ t.
+            entry t (replicate 1 (pos 0)) (replicate 5 (pos 0))
+            ≡ opened pool (unwrap_or (point_at point) Western) mdv first last) }
     {
         let point = Point::at(point)?;
         if pool < 1 || pool > 99_999 || mdv < 1 || mdv > 500_000 {
@@ -85,7 +88,9 @@ impl Tables {
     fn add(&mut self, term: Term) -> u32
         requires { vec_len self.old.terms < 64 }
         ensures value { result ≡ length (view self.old).terms + 1 }
-        ensures after { view self.new ≡ with_terms (view self.old) ((view self.old).terms ++ entry term (replicate 1 (pos 0)) (replicate 5 (pos 0)) ∷ []) }
+        ensures after { view self.new ≡
+            with_terms (view self.old)
+            ((view self.old).terms ++ entry term (replicate 1 (pos 0)) (replicate 5 (pos 0)) ∷ []) }
     {
         self.terms.push_reserved(term);
         self.gas.push_reserved(Gas::none());

@@ -1,5 +1,6 @@
 // The call post, but for its price.
-ghost use Rattle.std.specs.Prelude.{◌≡◌, ◌+◌, ◌^◌, ◌<◌, ◌≤◌, true, false, List, [], ◌∷◌, ℤ, pos, ◌-ℤ◌, vec_len, MatchResult};
+ghost use Rattle.std.specs.Prelude.{◌≡◌, ◌+◌, ◌^◌, ◌<◌, ◌≤◌, true, false, List, []};
+ghost use Rattle.std.specs.Prelude.{◌∷◌, ℤ, pos, ◌-ℤ◌, vec_len, MatchResult};
 ghost use Rattle.amounts.specs.Rows.{within};
 ghost use Rattle.amounts.specs.Tables.{grown, rows_of};
 ghost use Rattle.prices.specs.Quotes.{Quote};
@@ -34,7 +35,9 @@ fn overrun(owed: u64) -> [i64; 5]
 impl Tables {
     // A term's place in the tables.
     pub fn place(&self, term: u32) -> Result<usize, Refusal>
-        ensures { MatchResult result (λ i. (i + 1 ≡ term) × (i < vec_len self.now.terms) × (missing (view self.now) term ≡ false)) (λ e. (e ≡ NoTerm) × (missing (view self.now) term ≡ true)) }
+        ensures { MatchResult result
+            (λ i. (i + 1 ≡ term) × (i < vec_len self.now.terms) × (missing (view self.now) term ≡ false))
+            (λ e. (e ≡ NoTerm) × (missing (view self.now) term ≡ true)) }
     {
         let n = term as usize;
         let count = self.terms.len();
@@ -47,7 +50,10 @@ impl Tables {
     // Whether a term's gas may grow by this much.
     fn test_gas(&self, at: usize, net: i64) -> Result<(), Refusal>
         requires { at < vec_len self.now.terms }
-        ensures { MatchResult result (λ _. within 200000000 (grown (rows_of 1 200000000 self.now.gas.items) at (net ∷ [])) ≡ true) (λ e. (e ≡ GasLimit) × (within 200000000 (grown (rows_of 1 200000000 self.now.gas.items) at (net ∷ [])) ≡ false)) }
+        ensures { MatchResult result
+            (λ _. within 200000000 (grown (rows_of 1 200000000 self.now.gas.items) at (net ∷ [])) ≡ true)
+            (λ e. (e ≡ GasLimit)
+            × (within 200000000 (grown (rows_of 1 200000000 self.now.gas.items) at (net ∷ [])) ≡ false)) }
     {
         self.gas[at].plus(&[net])?;
         Ok(())
@@ -60,7 +66,11 @@ impl Tables {
         delivered: u32,
         consumed: u32,
     ) -> Result<Posting, Refusal>
-        ensures { MatchResult result (λ p. Ready self.now p × ((q : Quote) → post_call q (view self.now) term delivered consumed ≡ pricing q self.now p)) (λ e. (q : Quote) → Meets (post_call q (view self.now) term delivered consumed) (Answer.Refused e) (view self.now)) }
+        ensures { MatchResult result
+            (λ p. Ready self.now p
+            × ((q : Quote) → post_call q (view self.now) term delivered consumed ≡ pricing q self.now p))
+            (λ e. (q : Quote)
+            → Meets (post_call q (view self.now) term delivered consumed) (Answer.Refused e) (view self.now)) }
     {
         let at = self.place(term)?;
         let row = self.terms[at];
@@ -100,7 +110,8 @@ impl Term {
     // The term with its next day posted.
     fn posted(&self) -> Term
         requires { self.now.next ≤ self.now.last }
-        ensures { (gas lines : List ℤ) → (balance : ℤ) (after : List ℤ) → entry result (balance ∷ []) after ≡ posted (entry self.now gas lines) balance after }
+        ensures { (gas lines : List ℤ) → (balance : ℤ) (after : List ℤ)
+            → entry result (balance ∷ []) after ≡ posted (entry self.now gas lines) balance after }
     {
         Term {
             pool: self.pool,

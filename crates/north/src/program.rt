@@ -28,7 +28,9 @@ fn behind_price(stop: Option<Stop>) -> Option<Stop>
 
 // Runs a journal under a reference price.
 fn run_priced(heap: Global, price: u32, journal: &[u32]) -> Result<Output, NotMade>
-    ensures { IfOk result (λ o. (o.words.items ≡ (priced_run price journal.now).words) × (o.stop ≡ (priced_run price journal.now).stop)) }
+    ensures { IfOk result (λ o.
+        (o.words.items ≡ (priced_run price journal.now).words)
+        × (o.stop ≡ (priced_run price journal.now).stop)) }
 {
     let mut ledger = north_ledger(heap, price)?;
     let mut answers = vec![in heap; 0; 8192]?;

@@ -1,13 +1,17 @@
 -- A word more of the bytes, and a word more as bytes: what is left gives the rest.
-use Rattle.std.proofs.Common.{◌≡◌, ℕ, ◌+◌, ◌*◌, ◌/◌, ◌%◌, ◌<◌, ◌≤◌, List, [], ◌∷◌, ◌++◌, length, get_or, drop, sym, refl, ap, ◌∙◌, arith}
+use Rattle.std.proofs.Common.{◌≡◌, ℕ, ◌+◌, ◌*◌, ◌/◌, ◌%◌, ◌<◌, ◌≤◌, List, [], ◌∷◌, ◌++◌}
+use Rattle.std.proofs.Common.{length, get_or, drop, sym, refl, ap, ◌∙◌, arith}
 use Rattle.std.proofs.lemmas.List.{length-drop, append_assoc, append-nil, drop_more, at_drop_more, at_drop_all}
 use Rattle.octets.specs.Packing.{little, words_of, four, packed}
 
-one_byte : (bs : List ℕ) (k j : ℕ) (rest : List ℕ) → k < length bs → j ≡ k + 1 → drop j bs ≡ rest → drop k bs ≡ get_or bs k 0 ∷ rest
+one_byte : (bs : List ℕ) (k j : ℕ) (rest : List ℕ) → k < length bs → j ≡ k + 1 → drop j bs ≡ rest
+    → drop k bs ≡ get_or bs k 0 ∷ rest
 one_byte bs k j rest h e r = drop_more bs k 0 h ∙ ap (λ xs. get_or bs k 0 ∷ xs) (ap (λ i. drop i bs) (sym e) ∙ r)
 
 -- the four bytes at a place are its word
-word_at : (k : ℕ) (bs : List ℕ) → k + 4 ≤ length bs → words_of (drop k bs) ≡ little (get_or bs k 0) (get_or bs (k + 1) 0) (get_or bs (k + 2) 0) (get_or bs (k + 3) 0) ∷ words_of (drop (k + 4) bs)
+word_at : (k : ℕ) (bs : List ℕ) → k + 4 ≤ length bs
+    → words_of (drop k bs) ≡ little (get_or bs k 0) (get_or bs (k + 1) 0) (get_or bs (k + 2) 0)
+    (get_or bs (k + 3) 0) ∷ words_of (drop (k + 4) bs)
 word_at k bs h =
     ap words_of
     (one_byte bs k (k + 1) _ (omega arith) refl
@@ -15,12 +19,15 @@ word_at k bs h =
     (one_byte bs (k + 2) (k + 3) _ (omega arith) (omega arith)
     (one_byte bs (k + 3) (k + 4) _ (omega arith) (omega arith) refl))))
 
-pub word_more : (ws bs : List ℕ) (i w : ℕ) → 4 * i + 4 ≤ length bs → ws ++ words_of (drop (4 * i) bs) ≡ words_of bs → w ≡ little (get_or bs (4 * i) 0) (get_or bs (4 * i + 1) 0) (get_or bs (4 * i + 2) 0) (get_or bs (4 * i + 3) 0) → (ws ++ w ∷ []) ++ words_of (drop (4 * (i + 1)) bs) ≡ words_of bs
+pub word_more : (ws bs : List ℕ) (i w : ℕ) → 4 * i + 4 ≤ length bs → ws ++ words_of (drop (4 * i) bs) ≡ words_of bs
+    → w ≡ little (get_or bs (4 * i) 0) (get_or bs (4 * i + 1) 0) (get_or bs (4 * i + 2) 0) (get_or bs (4 * i + 3) 0)
+    → (ws ++ w ∷ []) ++ words_of (drop (4 * (i + 1)) bs) ≡ words_of bs
 word_more ws bs i w h inv e =
     let k : 4 * (i + 1) ≡ 4 * i + 4 = omega arith in
     append_assoc ws (w ∷ []) (words_of (drop (4 * (i + 1)) bs))
     ∙ ap (λ x. ws ++ x ∷ words_of (drop (4 * (i + 1)) bs)) e
-    ∙ ap (λ j. ws ++ little (get_or bs (4 * i) 0) (get_or bs (4 * i + 1) 0) (get_or bs (4 * i + 2) 0) (get_or bs (4 * i + 3) 0) ∷ words_of (drop j bs)) k
+    ∙ ap (λ j. ws ++ little (get_or bs (4 * i) 0) (get_or bs (4 * i + 1) 0) (get_or bs (4 * i + 2) 0)
+    (get_or bs (4 * i + 3) 0) ∷ words_of (drop j bs)) k
     ∙ ap (λ x. ws ++ x) (sym (word_at (4 * i) bs h))
     ∙ inv
 
@@ -36,8 +43,10 @@ word_cut (a ∷ (b ∷ [])) h k = refl
 word_cut (a ∷ (b ∷ (c ∷ []))) h k = refl
 word_cut (a ∷ (b ∷ (c ∷ (d ∷ rest)))) h k = absurd (omega (arith, k))
 
-pub byte_more : (bs ws : List ℕ) (i : ℕ) → i < length ws → bs ++ packed (drop i ws) ≡ packed ws → (bs ++ four (get_or ws i 0)) ++ packed (drop (i + 1) ws) ≡ packed ws
-byte_more bs ws i h inv = append_assoc bs (four (get_or ws i 0)) (packed (drop (i + 1) ws)) ∙ ap (λ x. bs ++ x) (sym (at_drop_more packed ws i 0 h)) ∙ inv
+pub byte_more : (bs ws : List ℕ) (i : ℕ) → i < length ws → bs ++ packed (drop i ws) ≡ packed ws
+    → (bs ++ four (get_or ws i 0)) ++ packed (drop (i + 1) ws) ≡ packed ws
+byte_more bs ws i h inv = append_assoc bs (four (get_or ws i 0)) (packed (drop (i + 1) ws))
+    ∙ ap (λ x. bs ++ x) (sym (at_drop_more packed ws i 0 h)) ∙ inv
 
 pub bytes_all : (bs ws : List ℕ) (i : ℕ) → length ws ≤ i → bs ++ packed (drop i ws) ≡ packed ws → bs ≡ packed ws
 bytes_all bs ws i h inv = sym (append-nil bs) ∙ ap (λ x. bs ++ x) (sym (at_drop_all packed ws i h)) ∙ inv
@@ -45,7 +54,9 @@ bytes_all bs ws i h inv = sym (append-nil bs) ∙ ap (λ x. bs ++ x) (sym (at_dr
 -- past the last whole word
 module _ (ws bs : List ℕ) (i : ℕ) (inv : ws ++ words_of (drop (4 * i) bs) ≡ words_of bs) (e : i ≡ length bs / 4) where
   pub words_whole : length bs % 4 ≡ 0 → ws ≡ words_of bs
-  words_whole h = sym (append-nil ws) ∙ ap (λ x. ws ++ x) (sym (word_none (drop (4 * i) bs) (simp length-drop (omega arith)))) ∙ inv
+  words_whole h = sym (append-nil ws)
+      ∙ ap (λ x. ws ++ x) (sym (word_none (drop (4 * i) bs) (simp length-drop (omega arith)))) ∙ inv
 
   pub words_cut : 0 < length bs % 4 → ws ++ 0 ∷ [] ≡ words_of bs
-  words_cut h = ap (λ x. ws ++ x) (sym (word_cut (drop (4 * i) bs) (simp length-drop (omega arith)) (simp length-drop (omega arith)))) ∙ inv
+  words_cut h = ap (λ x. ws ++ x)
+      (sym (word_cut (drop (4 * i) bs) (simp length-drop (omega arith)) (simp length-drop (omega arith)))) ∙ inv

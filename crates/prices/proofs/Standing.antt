@@ -1,10 +1,12 @@
 -- The laws of one day, and of a layer's lacks.
-use Rattle.std.proofs.Common.{◌≡◌, ℕ, ◌+◌, ◌-◌, true, [], is_some, is_ok, Some, None, Ok, Err, Option, Result, refl, ap, ◌∙◌, arith}
+use Rattle.std.proofs.Common.{◌≡◌, ℕ, ◌+◌, ◌-◌, true, [], is_some, is_ok, Some, None}
+use Rattle.std.proofs.Common.{Ok, Err, Option, Result, refl, ap, ◌∙◌, arith}
 use Rattle.std.proofs.lemmas.Bool.{false≢true}
 use Rattle.prices.specs.declared.point.Point.{Point}
 use Rattle.prices.specs.declared.source.Lack.{Lack}
 use Rattle.prices.specs.Over.{over}
-use Rattle.prices.specs.Laws.{FirstLack, OneDay, Led, LacksFirst, DailyLacks, MonthlyLacks, ShareLacks, TollLacks, SameLack, price_on}
+use Rattle.prices.specs.Laws.{FirstLack, OneDay, Led, LacksFirst, DailyLacks}
+use Rattle.prices.specs.Laws.{MonthlyLacks, ShareLacks, TollLacks, SameLack, price_on}
 use Rattle.prices.specs.Ends.{daily_price, monthly_price}
 use Rattle.prices.specs.Layers.{share_of, with_toll, toll_at}
 use Rattle.prices.specs.Means.{led_by, mean_price, mean_of}
@@ -24,7 +26,8 @@ module _ (price : ℕ → Option ℕ) where
   on_its_own d (Some p) e h = ap is_ok (one_day price d ∙ ap (price_on d) e)
   on_its_own d None e h = absurd (false≢true h)
 
-  led : (point : Point) (from to : ℕ) (r : Result ℕ Lack) → FirstLack price from to r → Led (λ p from to. mean_of price from to) point from to r
+  led : (point : Point) (from to : ℕ) (r : Result ℕ Lack) → FirstLack price from to r
+      → Led (λ p from to. mean_of price from to) point from to r
   led point from to (Ok p) h = λ d k l. on_its_own d (price d) refl (h d k l)
   led point from to (Err l) h =
       (one_day price l.day ∙ ap (price_on l.day) h.2, λ d k m. on_its_own d (price d) refl (h.3 d k m))

@@ -8,7 +8,8 @@ use Rattle.prices.specs.Means.{FairDay}
 entry_fair : (ps : List ℕ) (i : ℕ) → FairDay (entry_at ps i)
 entry_fair ps i =
     cond_both (nat_lt i (length ps) && nat_le (slice_index ps i) 10000000) (Some (slice_index ps i)) None FairDay
-    (λ e. leb-true (slice_index ps i) 10000000 (and_parts (nat_lt i (length ps)) (nat_le (slice_index ps i) 10000000) e).1) (λ e. tt)
+    (λ e. leb-true (slice_index ps i) 10000000
+    (and_parts (nat_lt i (length ps)) (nat_le (slice_index ps i) 10000000) e).1) (λ e. tt)
 
 pub daily_fair : (start : ℕ) (ps : List ℕ) (day : ℕ) → FairDay (daily_price start ps day)
 daily_fair start ps day =

@@ -18,8 +18,8 @@ FirstLack price from to (Err l) =
     × (price l.day ≡ None)
     × ((d : ℕ) → from ≤ d → d < l.day → is_some (price d) ≡ true)
 
--- A mean is at least what each day's price is at least, and at most what each day's price is at most: it lies between the
--- least and the greatest of them.
+-- A mean is at least what each day's price is at least, and at most what each day's price is at most: it lies between
+-- the least and the greatest of them.
 abbrev pub EachDay : (ℕ → Option ℕ) → ℕ → ℕ → (ℕ → Type 0) → Type 0
 EachDay price from to P = (d : ℕ) → from ≤ d → d ≤ to → Priced P (price d)
 
@@ -47,7 +47,8 @@ OneDay = (price : ℕ → Option ℕ) (d : ℕ) → mean_of price d d ≡ price_
 -- day has none by itself. Where the span has a price, each of its days has.
 abbrev pub Led : Quote → Point → ℕ → ℕ → Result ℕ Lack → Type 0
 Led q point from to (Ok p) = (d : ℕ) → from ≤ d → d ≤ to → is_ok (q point d d) ≡ true
-Led q point from to (Err l) = (q point l.day l.day ≡ Err l) × ((d : ℕ) → from ≤ d → d < l.day → is_ok (q point d d) ≡ true)
+Led q point from to (Err l) = (q point l.day l.day ≡ Err l)
+    × ((d : ℕ) → from ≤ d → d < l.day → is_ok (q point d d) ≡ true)
 
 abbrev pub LacksFirst : Quote → Type 0
 LacksFirst q = (point : Point) (from to : ℕ) → from ≤ to → Led q point from to (q point from to)
@@ -66,7 +67,9 @@ SameLack (Err k) (Ok q) = ⊥
 SameLack (Err k) (Err l) = k ≡ l
 
 abbrev pub ShareLacks : Type 0
-ShareLacks = (percent : ℕ) (q : Quote) (point : Point) (from to : ℕ) → SameLack (shared percent q point from to) (q point from to)
+ShareLacks = (percent : ℕ) (q : Quote) (point : Point) (from to : ℕ)
+    → SameLack (shared percent q point from to) (q point from to)
 
 abbrev pub TollLacks : Type 0
-TollLacks = (tolls : Tolls) (q : Quote) (point : Point) (from to : ℕ) → SameLack (tolled tolls q point from to) (q point from to)
+TollLacks = (tolls : Tolls) (q : Quote) (point : Point) (from to : ℕ)
+    → SameLack (tolled tolls q point from to) (q point from to)

@@ -1,5 +1,6 @@
 -- The mean of a price for each day, over the days of a span.
-use Rattle.std.specs.Prelude.{ℕ, ◌+◌, ◌-◌, ◌*◌, ◌/◌, ◌≤◌, List, [], ◌∷◌, length, Some, None, Ok, Err, sum, Option, Result}
+use Rattle.std.specs.Prelude.{ℕ, ◌+◌, ◌-◌, ◌*◌, ◌/◌, ◌≤◌, List, [], ◌∷◌, length}
+use Rattle.std.specs.Prelude.{Some, None, Ok, Err, sum, Option, Result}
 use Rattle.std.specs.List.{range_with_len}
 use Rattle.prices.specs.declared.source.Lack.{Lack}
 use Rattle.prices.specs.Over.{over}

@@ -1,6 +1,8 @@
 -- What holds of a mean over the days of a span.
-use Rattle.std.specs.Prelude.{◌≡◌, ℕ, zero, suc, ◌+◌, ◌-◌, ◌*◌, ◌<◌, ◌≤◌, true, List, [], ◌∷◌, length, is_some, IfOk, Some, None, Ok, Err, sum, Option, Result, refl}
-use Rattle.std.proofs.Common.{ap, ◌∙◌, subst, inl, inr, div-lt_iff_lt-mul, le-div_iff_mul-le, mul_comm, mul_assoc, add-mul, zero-mul, suc-mul, arith}
+use Rattle.std.specs.Prelude.{◌≡◌, ℕ, zero, suc, ◌+◌, ◌-◌, ◌*◌, ◌<◌, ◌≤◌, true, List, [], ◌∷◌, length}
+use Rattle.std.specs.Prelude.{is_some, IfOk, Some, None, Ok, Err, sum, Option, Result, refl}
+use Rattle.std.proofs.Common.{ap, ◌∙◌, subst, inl, inr, div-lt_iff_lt-mul, le-div_iff_mul-le}
+use Rattle.std.proofs.Common.{mul_comm, mul_assoc, add-mul, zero-mul, suc-mul, arith}
 use Rattle.std.specs.List.{range_with_len, AllByRecursion}
 use Rattle.std.proofs.lemmas.List.Sums.{sum_by-cons}
 use Rattle.std.proofs.ByRecursion.{sum_by_le}
@@ -34,18 +36,21 @@ sum_ge m (p ∷ ps) h = rw suc-mul (omega (arith, h.0, sum_ge m ps h.1, sum_by-c
 
 module _ (price : ℕ → Option ℕ) where
   -- what holds of each day's price holds of each price collected
-  all_led : (P : ℕ → Type 0) (d : ℕ) (o : Option ℕ) (r : Result (List ℕ) Lack) → Priced P o → IfOk r (AllByRecursion P) → IfOk (led_by d o r) (AllByRecursion P)
+  all_led : (P : ℕ → Type 0) (d : ℕ) (o : Option ℕ) (r : Result (List ℕ) Lack) → Priced P o
+      → IfOk r (AllByRecursion P) → IfOk (led_by d o r) (AllByRecursion P)
   all_led P d None r g h = tt
   all_led P d (Some p) (Ok ps) g h = (g, h)
   all_led P d (Some p) (Err l) g h = tt
 
-  all_on : (P : ℕ → Type 0) (a n : ℕ) → ((d : ℕ) → a ≤ d → d < a + n → Priced P (price d)) → IfOk (prices_on price (range_with_len a n)) (AllByRecursion P)
+  all_on : (P : ℕ → Type 0) (a n : ℕ) → ((d : ℕ) → a ≤ d → d < a + n → Priced P (price d))
+      → IfOk (prices_on price (range_with_len a n)) (AllByRecursion P)
   all_on P a zero f = tt
   all_on P a (suc n) f =
       all_led P a (price a) (prices_on price (range_with_len (a + 1) n)) (f a (omega arith) (omega arith))
       (all_on P (a + 1) n (λ d h k. f d (omega arith) (omega arith)))
 
-  length_led : (k d : ℕ) (o : Option ℕ) (r : Result (List ℕ) Lack) → IfOk r (λ ps. length ps ≡ k) → IfOk (led_by d o r) (λ ps. length ps ≡ suc k)
+  length_led : (k d : ℕ) (o : Option ℕ) (r : Result (List ℕ) Lack) → IfOk r (λ ps. length ps ≡ k)
+      → IfOk (led_by d o r) (λ ps. length ps ≡ suc k)
   length_led k d None r h = tt
   length_led k d (Some p) (Ok ps) h = ap suc h
   length_led k d (Some p) (Err l) h = tt
@@ -57,13 +62,16 @@ module _ (price : ℕ → Option ℕ) where
   -- the first of n days from a on that has no price, or that each has one
   abbrev Leads : ℕ → ℕ → Result (List ℕ) Lack → Type 0
   Leads a n (Ok ps) = (d : ℕ) → a ≤ d → d < a + n → is_some (price d) ≡ true
-  Leads a n (Err l) = (a ≤ l.day) × (l.day < a + n) × (price l.day ≡ None) × ((d : ℕ) → a ≤ d → d < l.day → is_some (price d) ≡ true)
+  Leads a n (Err l) = (a ≤ l.day) × (l.day < a + n) × (price l.day ≡ None)
+      × ((d : ℕ) → a ≤ d → d < l.day → is_some (price d) ≡ true)
 
-  some_from : (a d : ℕ) → is_some (price a) ≡ true → (a + 1 ≤ d → is_some (price d) ≡ true) → a ≤ d → is_some (price d) ≡ true
+  some_from : (a d : ℕ) → is_some (price a) ≡ true → (a + 1 ≤ d → is_some (price d) ≡ true) → a ≤ d
+      → is_some (price d) ≡ true
   some_from a d here later h =
       elim (cases_eq a d) [ inl e ↦ subst (λ x. is_some (price x) ≡ true) e here | inr ne ↦ later (omega arith) ]
 
-  leads_led : (a n : ℕ) (o : Option ℕ) (r : Result (List ℕ) Lack) → price a ≡ o → Leads (a + 1) n r → Leads a (suc n) (led_by a o r)
+  leads_led : (a n : ℕ) (o : Option ℕ) (r : Result (List ℕ) Lack) → price a ≡ o → Leads (a + 1) n r
+      → Leads a (suc n) (led_by a o r)
   leads_led a n None r e h = (omega arith, omega arith, e, λ d k l. absurd (omega arith))
   leads_led a n (Some p) (Ok ps) e h =
       λ d k l. some_from a d (ap is_some e) (λ m. h d m (omega arith)) k
@@ -74,7 +82,8 @@ module _ (price : ℕ → Option ℕ) where
   leads a zero = λ d h k. absurd (omega arith)
   leads a (suc n) = leads_led a n (price a) (prices_on price (range_with_len (a + 1) n)) refl (leads (a + 1) n)
 
-  first_over : (from to : ℕ) (r : Result (List ℕ) Lack) → from ≤ to → Leads from (to + 1 - from) r → FirstLack price from to (over mean_price r)
+  first_over : (from to : ℕ) (r : Result (List ℕ) Lack) → from ≤ to → Leads from (to + 1 - from) r
+      → FirstLack price from to (over mean_price r)
   first_over from to (Ok ps) f h = λ d k l. h d k (omega arith)
   first_over from to (Err l) f h = (h.0, omega arith, h.2, h.3)
 
@@ -99,9 +108,11 @@ module _ (price : ℕ → Option ℕ) where
       between_over from to (prices_on price (span_days from to)) f (length_on from (to + 1 - from))
       (λ P h. all_on P from (to + 1 - from) (λ d k l. h d k (omega arith)))
 
-  fair_from : (from to : ℕ) (r : Result ℕ Lack) → ((d : ℕ) → FairDay (price d)) → FirstLack price from to r → Between price from to r → Fair from to r
+  fair_from : (from to : ℕ) (r : Result ℕ Lack) → ((d : ℕ) → FairDay (price d)) → FirstLack price from to r
+      → Between price from to r → Fair from to r
   fair_from from to (Ok m) fair h b = b.1 10000000 (λ d _ _. fair d)
   fair_from from to (Err l) fair h b = (h.0, h.1)
 
   pub mean_fair : (from to : ℕ) → from ≤ to → ((d : ℕ) → FairDay (price d)) → Fair from to (mean_of price from to)
-  mean_fair from to f fair = fair_from from to (mean_of price from to) fair (mean_first from to f) (mean_between from to f)
+  mean_fair from to f fair = fair_from from to (mean_of price from to) fair (mean_first from to f)
+      (mean_between from to f)

@@ -20,5 +20,6 @@ pub trait PriceSource {
         ensures { result ≡ quote self.now point span.from span.to };
 
     // A price is at most 10,000,000, and a lacking day is one of the span.
-    ghost fair: { (s : Self) (p : Point) (from to : ℕ) → 1 ≤ from → from ≤ to → to ≤ 3653 → Fair from to (quote s p from to) };
+    ghost fair: { (s : Self) (p : Point) (from to : ℕ) → 1 ≤ from → from ≤ to → to ≤ 3653
+        → Fair from to (quote s p from to) };
 }

@@ -17,11 +17,14 @@ day_after day (Open pool point mdv first last) a = day
 day_after day (Post term delivered consumed) a = day
 day_after day (Statement term) a = day
 
--- Each entry is the next call of the journal with the next answer, and has the day on which it was made; the day and the
--- two places are those after the last entry.
+-- Each entry is the next call of the journal with the next answer, and has the day on which it was made; the day and
+-- the two places are those after the last entry.
 pub data Seen : List ℕ → List ℕ → List Entry → ℕ → ℕ → ℕ → Type 0 where
   start : {journal answers : List ℕ} → Seen journal answers [] 1 0 0
-  more : {journal answers : List ℕ} {es : List Entry} {day asked replied : ℕ} (e : Entry) (used taken : ℕ) → Seen journal answers es day asked replied → e.day ≡ day → read_call (drop asked journal) ≡ Ok (e.call, used) → read_answer e.call (drop replied answers) ≡ Ok (e.answer, taken) → Seen journal answers (es ++ e ∷ []) (day_after day e.call e.answer) (asked + used) (replied + taken)
+  more : {journal answers : List ℕ} {es : List Entry} {day asked replied : ℕ} (e : Entry) (used taken : ℕ)
+      → Seen journal answers es day asked replied → e.day ≡ day → read_call (drop asked journal) ≡ Ok (e.call, used)
+      → read_answer e.call (drop replied answers) ≡ Ok (e.answer, taken)
+      → Seen journal answers (es ++ e ∷ []) (day_after day e.call e.answer) (asked + used) (replied + taken)
 
 abbrev pub Shown : List ℕ → List ℕ → List Entry → Type 0
 Shown journal answers entries = (day : ℕ) × (asked : ℕ) × (replied : ℕ) × Seen journal answers entries day asked replied

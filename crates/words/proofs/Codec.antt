@@ -1,8 +1,11 @@
 -- Words, figures and calls: written and read back, and read and written again.
-use Rattle.std.proofs.Common.{◌≡◌, ℕ, zero, suc, ◌+◌, ◌*◌, ◌%◌, ◌<◌, true, eqb, List, [], ◌∷◌, ◌++◌, length, get_or, drop, IfOk, Some, None, Ok, Err, Option, Result, unwrap_or, sym, refl, ap, ◌∙◌, subst, inl, inr, mod-eq_of_lt, add-one, arith, lit<}
+use Rattle.std.proofs.Common.{◌≡◌, ℕ, zero, suc, ◌+◌, ◌*◌, ◌%◌, ◌<◌, true, eqb, List, [], ◌∷◌, ◌++◌}
+use Rattle.std.proofs.Common.{length, get_or, drop, IfOk, Some, None, Ok, Err, Option, Result, unwrap_or}
+use Rattle.std.proofs.Common.{sym, refl, ap, ◌∙◌, subst, inl, inr, mod-eq_of_lt, add-one, arith, lit<}
 use Rattle.std.proofs.lemmas.Nat.{div-mul-add, mod-mul-add, mod_below, div-add-mod'}
 use Rattle.std.proofs.lemmas.List.{drop_more, drop_all}
-use Rattle.std.proofs.lemmas.Bool.{and_parts, and_from, ltb-true, lt-ltb, eqb-true, eq-eqb, cases_Bool, cond-true, cond-false, cond_both}
+use Rattle.std.proofs.lemmas.Bool.{and_parts, and_from, ltb-true, lt-ltb, eqb-true}
+use Rattle.std.proofs.lemmas.Bool.{eq-eqb, cases_Bool, cond-true, cond-false, cond_both}
 use Rattle.calls.specs.declared.call.Call.{Call}
 use Rattle.calls.specs.declared.call.Call.TheVariants.{Day, Open, Post, Statement}
 use Rattle.words.specs.Kinds.{kind_number, kind_in, value_in, word}
@@ -18,7 +21,8 @@ pub kind_word : (k : Kind) (v : ℕ) → kind_in (word k v) ≡ kind_number k
 kind_word k v = div-mul-add (kind_number k) 268435456 (v % 268435456) (mod_below v 268435456 (lit< tt))
 
 pub value_word : (k : Kind) (v : ℕ) → v < 268435456 → value_in (word k v) ≡ v
-value_word k v h = mod-mul-add (kind_number k) 268435456 (v % 268435456) (mod_below v 268435456 (lit< tt)) ∙ mod-eq_of_lt h
+value_word k v h = mod-mul-add (kind_number k) 268435456 (v % 268435456) (mod_below v 268435456 (lit< tt))
+    ∙ mod-eq_of_lt h
 
 pub word_parts : (k : Kind) (w : ℕ) → kind_in w ≡ kind_number k → word k (value_in w) ≡ w
 word_parts k w e =
@@ -26,7 +30,8 @@ word_parts k w e =
     ∙ ap (λ x. x * 268435456 + w % 268435456) (sym e) ∙ div-add-mod' w 268435456
 
 -- figures that fit, written and read back
-pub figures_return : (ks : List Kind) (vs ws : List ℕ) → length ks ≡ length vs → fit vs ≡ true → read_figures ks (figure_words ks vs ++ ws) ≡ Ok vs
+pub figures_return : (ks : List Kind) (vs ws : List ℕ) → length ks ≡ length vs → fit vs ≡ true
+    → read_figures ks (figure_words ks vs ++ ws) ≡ Ok vs
 figures_return [] [] ws l f = refl
 figures_return [] (v ∷ vs) ws l f = absurd (omega arith)
 figures_return (k ∷ ks) [] ws l f = absurd (omega arith)
@@ -36,7 +41,9 @@ figures_return (k ∷ ks) (v ∷ vs) ws l f =
     ∙ ap (λ r. further r (value_in (word k v))) (figures_return ks vs ws (omega arith) p.1)
     ∙ ap (λ x. Ok (x ∷ vs)) (value_word k v (ltb-true v 268435456 p.0))
 
-head_of : (c : Call) (ws : List ℕ) → read_call (call_words c ++ ws) ≡ called (call_number c) (read_figures (unwrap_or (shape_of (call_number c)) []) (figure_words (unwrap_or (shape_of (call_number c)) []) (figures_of c) ++ ws))
+head_of : (c : Call) (ws : List ℕ) → read_call (call_words c ++ ws)
+    ≡ called (call_number c) (read_figures (unwrap_or (shape_of (call_number c)) [])
+    (figure_words (unwrap_or (shape_of (call_number c)) []) (figures_of c) ++ ws))
 head_of Day ws = refl
 head_of (Open pool point mdv first last) ws = refl
 head_of (Post term delivered consumed) ws = refl
@@ -48,8 +55,10 @@ named (Open pool point mdv first last) = refl
 named (Post term delivered consumed) = refl
 named (Statement term) = refl
 
-pub call_returns : (c : Call) (ws : List ℕ) → fit (figures_of c) ≡ true → read_call (call_words c ++ ws) ≡ Ok (c, length (call_words c))
-call_returns c ws f = head_of c ws ∙ ap (called (call_number c)) (figures_return (unwrap_or (shape_of (call_number c)) []) (figures_of c) ws (shape_long c) f) ∙ named c
+pub call_returns : (c : Call) (ws : List ℕ) → fit (figures_of c) ≡ true
+    → read_call (call_words c ++ ws) ≡ Ok (c, length (call_words c))
+call_returns c ws f = head_of c ws ∙ ap (called (call_number c))
+    (figures_return (unwrap_or (shape_of (call_number c)) []) (figures_of c) ws (shape_long c) f) ∙ named c
 
 -- the first figures of a list, by their places
 abbrev firsts : ℕ → ℕ → List ℕ → List ℕ
@@ -89,7 +98,9 @@ row_in : (ss : List (ℕ × List Kind)) → Rows ss → (n : ℕ) (ks : List Kin
 row_in [] r n ks e = let z : ◌≡◌ {A = ℕ} 0 1 = cc in absurd (omega arith)
 row_in (s ∷ ss) r n ks e =
     elim (cases_Bool (eqb s.0 n)) [
-      | inl t ↦ let a : s.0 ≡ n = eqb-true s.0 n t in let b : s.1 ≡ ks = cc (cond-true _ (Some s.1) (shape_in ss n) t) in subst (λ m. Row m ks) a (subst (Row s.0) b r.0)
+      | inl t ↦ let a : s.0 ≡ n = eqb-true s.0 n t in
+          let b : s.1 ≡ ks = cc (cond-true _ (Some s.1) (shape_in ss n) t) in
+          subst (λ m. Row m ks) a (subst (Row s.0) b r.0)
       | inr f ↦ row_in ss r.1 n ks (sym (cond-false _ (Some s.1) (shape_in ss n) f) ∙ e)
     ]
 
@@ -99,7 +110,8 @@ pub record Figured (ks : List Kind) (ws vs : List ℕ) : Type 0 where
   pub words : ws ≡ figure_words ks vs ++ drop (length vs) ws
   pub fits : fit vs ≡ true
 
-figured_more : (k : Kind) (ks : List Kind) (w : ℕ) (ws : List ℕ) → kind_in w ≡ kind_number k → (r : Result (List ℕ) ℕ) → IfOk r (Figured ks ws) → IfOk (further r (value_in w)) (Figured (k ∷ ks) (w ∷ ws))
+figured_more : (k : Kind) (ks : List Kind) (w : ℕ) (ws : List ℕ) → kind_in w ≡ kind_number k → (r : Result (List ℕ) ℕ)
+    → IfOk r (Figured ks ws) → IfOk (further r (value_in w)) (Figured (k ∷ ks) (w ∷ ws))
 figured_more k ks w ws e (Ok vs) f = record {
   long = ap suc f.long;
   words = ap (λ x. x ∷ ws) (sym (word_parts k w e)) ∙ ap (λ s. word k (value_in w) ∷ s) f.words;
@@ -127,7 +139,8 @@ pub record Front (ws : List ℕ) (p : Call × ℕ) : Type 0 where
   pub fits : fit (figures_of p.0) ≡ true
 
 module _ (w : ℕ) (ws : List ℕ) (e : kind_in w ≡ 1) where
-  front_called : (ks : List Kind) → Row (value_in w) ks → shape_of (value_in w) ≡ Some ks → (r : Result (List ℕ) ℕ) → IfOk r (Figured ks ws) → IfOk (called (value_in w) r) (Front (w ∷ ws))
+  front_called : (ks : List Kind) → Row (value_in w) ks → shape_of (value_in w) ≡ Some ks → (r : Result (List ℕ) ℕ)
+      → IfOk r (Figured ks ws) → IfOk (called (value_in w) r) (Front (w ∷ ws))
   front_called ks row s (Err at) f = tt
   front_called ks row s (Ok vs) f =
       let n = value_in w in
@@ -147,9 +160,11 @@ module _ (w : ℕ) (ws : List ℕ) (e : kind_in w ≡ 1) where
         fits = ap fit p.1 ∙ f.fits;
       }
 
-  front_shaped : (o : Option (List Kind)) → shape_of (value_in w) ≡ o → IfOk (with_shape (value_in w) o ws) (Front (w ∷ ws))
+  front_shaped : (o : Option (List Kind)) → shape_of (value_in w) ≡ o
+      → IfOk (with_shape (value_in w) o ws) (Front (w ∷ ws))
   front_shaped None s = tt
-  front_shaped (Some ks) s = front_called ks (row_in shapes rows (value_in w) ks s) s (read_figures ks ws) (figured ks ws)
+  front_shaped (Some ks) s = front_called ks (row_in shapes rows (value_in w) ks s) s (read_figures ks ws)
+      (figured ks ws)
 
 pub front : (ws : List ℕ) → IfOk (read_call ws) (Front ws)
 front [] = tt

@@ -1,5 +1,6 @@
 -- The first place where two lists of words differ.
-use Rattle.std.proofs.Common.{◌≡◌, ℕ, ◌+◌, ◌<◌, ◌≤◌, eqb, List, [], ◌∷◌, ◌++◌, length, get_or, drop, Some, None, Option, sym, refl, ap, ◌∙◌, subst, arith}
+use Rattle.std.proofs.Common.{◌≡◌, ℕ, ◌+◌, ◌<◌, ◌≤◌, eqb, List, [], ◌∷◌, ◌++◌, length, get_or}
+use Rattle.std.proofs.Common.{drop, Some, None, Option, sym, refl, ap, ◌∙◌, subst, arith}
 use Rattle.std.proofs.lemmas.List.{drop_all, drop_more, length-drop}
 use Rattle.std.proofs.lemmas.Bool.{eq-eqb, ne_eqb, eqb-true, cond-true, cond_both}
 use Rattle.calls.specs.declared.call.Answer.{Answer}
@@ -28,12 +29,15 @@ module _ (es ws : List ℕ) (i : ℕ) (so_far : shifted i (differs (drop i es) (
   found_end h k = found (rw (drop_more es i 0 h, drop_all i ws k))
 
   pub found_other : i < length es → i < length ws → (get_or ws i 0 ≡ get_or es i 0 → ⊥) → Some i ≡ differs es ws
-  found_other h k ne = let e = ne_eqb (get_or ws i 0) (get_or es i 0) ne in found (rw (drop_more es i 0 h, drop_more ws i 0 k, e))
+  found_other h k ne = let e = ne_eqb (get_or ws i 0) (get_or es i 0) ne in
+      found (rw (drop_more es i 0 h, drop_more ws i 0 k, e))
 
-  pub same_more : i < length es → i < length ws → get_or ws i 0 ≡ get_or es i 0 → shifted (i + 1) (differs (drop (i + 1) es) (drop (i + 1) ws)) ≡ differs es ws
+  pub same_more : i < length es → i < length ws → get_or ws i 0 ≡ get_or es i 0
+      → shifted (i + 1) (differs (drop (i + 1) es) (drop (i + 1) ws)) ≡ differs es ws
   same_more h k is =
       let t = eq-eqb (get_or ws i 0) (get_or es i 0) is in
-      let e : differs (drop i es) (drop i ws) ≡ onward (differs (drop (i + 1) es) (drop (i + 1) ws)) = rw (drop_more es i 0 h, drop_more ws i 0 k, t) in
+      let e : differs (drop i es) (drop i ws) ≡ onward (differs (drop (i + 1) es) (drop (i + 1) ws)) =
+      rw (drop_more es i 0 h, drop_more ws i 0 k, t) in
       sym (shifted_onward i (differs (drop (i + 1) es) (drop (i + 1) ws))) ∙ sym (ap (shifted i) e) ∙ so_far
 
   pub same_all : length es ≤ i → None ≡ differs es ws
@@ -51,7 +55,8 @@ tells_onward e w es ws is (Some at) t = omega arith
 tells : (es ws : List ℕ) → Tells es ws (differs es ws)
 tells [] ws = (refl, omega arith)
 tells (e ∷ es) [] = omega arith
-tells (e ∷ es) (w ∷ ws) = cond_both (eqb w e) _ _ (Tells (e ∷ es) (w ∷ ws)) (λ t. tells_onward e w es ws (eqb-true w e t) (differs es ws) (tells es ws)) (λ _. omega arith)
+tells (e ∷ es) (w ∷ ws) = cond_both (eqb w e) _ _ (Tells (e ∷ es) (w ∷ ws))
+    (λ t. tells_onward e w es ws (eqb-true w e t) (differs es ws) (tells es ws)) (λ _. omega arith)
 
 pub differs_within : (es ws : List ℕ) (at : ℕ) → Some at ≡ differs es ws → at ≤ length ws
 differs_within es ws at e = subst (Tells es ws) (sym e) (tells es ws)
@@ -76,7 +81,8 @@ module _ (c : Call) (ws : List ℕ) (place : ℕ) (a : Answer) (is : a ≡ answe
   pub unreplied : (off : ℕ) → Some off ≡ differs (answer_words a) (drop place ws) → Unreplied c ws place (place + off)
   unreplied off e = record { off = off; read = read_by (Some off) e; here = refl }
 
-  pub replied : None ≡ differs (answer_words a) (drop place ws) → (n : ℕ) → n ≡ length (answer_words a) → Replied c ws place a (place + n)
+  pub replied : None ≡ differs (answer_words a) (drop place ws) → (n : ℕ) → n ≡ length (answer_words a)
+      → Replied c ws place a (place + n)
   replied e n is = record {
     used = length (answer_words a);
     read = read_by None e;

@@ -1,5 +1,6 @@
 -- Reading figures word by word, and the call at a place.
-use Rattle.std.proofs.Common.{◌≡◌, ℕ, suc, ◌+◌, ◌<◌, ◌≤◌, true, false, eqb, List, [], ◌∷◌, ◌++◌, length, get_or, take, drop, set, IfOk, Some, None, Ok, Err, Result, sym, refl, ap, ◌∙◌, arith}
+use Rattle.std.proofs.Common.{◌≡◌, ℕ, suc, ◌+◌, ◌<◌, ◌≤◌, true, false, eqb, List, [], ◌∷◌, ◌++◌, length, get_or}
+use Rattle.std.proofs.Common.{take, drop, set, IfOk, Some, None, Ok, Err, Result, sym, refl, ap, ◌∙◌, arith}
 use Rattle.std.proofs.lemmas.List.{drop_all, drop_more, take_more_set, length-take-le, length-drop, at_drop_more}
 use Rattle.std.proofs.lemmas.Result.{IfOk-at_ok}
 use Rattle.std.proofs.lemmas.Bool.{cond-true, cond-false, cond_both}
@@ -31,39 +32,54 @@ module _ (ks : List Kind) (ws : List ℕ) (place i : ℕ) (h : i < length ks) wh
   at_end : length ws ≤ place + i → read_figures (drop i ks) (drop (place + i) ws) ≡ Err 0
   at_end k = rw (drop_more ks i kind.Call h, drop_all (place + i) ws k)
 
-  at_wrong : place + i < length ws → eqb (kind_in (get_or ws (place + i) 0)) (kind_number (get_or ks i kind.Call)) ≡ false → read_figures (drop i ks) (drop (place + i) ws) ≡ Err 0
+  at_wrong : place + i < length ws → eqb (kind_in (get_or ws (place + i) 0)) (kind_number (get_or ks i kind.Call))
+      ≡ false → read_figures (drop i ks) (drop (place + i) ws) ≡ Err 0
   at_wrong k e = rw (drop_more ks i kind.Call h, drop_more ws (place + i) 0 k, e)
 
-  at_right : place + i < length ws → eqb (kind_in (get_or ws (place + i) 0)) (kind_number (get_or ks i kind.Call)) ≡ true → read_figures (drop i ks) (drop (place + i) ws) ≡ further (read_figures (drop (i + 1) ks) (drop (place + (i + 1)) ws)) (value_in (get_or ws (place + i) 0))
+  at_right : place + i < length ws → eqb (kind_in (get_or ws (place + i) 0)) (kind_number (get_or ks i kind.Call))
+      ≡ true → read_figures (drop i ks) (drop (place + i) ws)
+      ≡ further (read_figures (drop (i + 1) ks) (drop (place + (i + 1)) ws)) (value_in (get_or ws (place + i) 0))
   at_right k e =
       let a : place + (i + 1) ≡ place + i + 1 = omega arith in
       rw (drop_more ks i kind.Call h, drop_more ws (place + i) 0 k, e, a)
 
-  module _ (vs : List ℕ) (l : i < length vs) (so_far : onto (take i vs) (read_figures (drop i ks) (drop (place + i) ws)) ≡ read_figures ks (drop place ws)) where
-    missed : read_figures (drop i ks) (drop (place + i) ws) ≡ Err 0 → Missed ks ws place (place + i)
-    missed e = record {
-      off = i;
-      read = sym so_far ∙ ap (onto (take i vs)) e ∙ onto_err (take i vs) 0 ∙ ap Err (omega (arith, length-take-le i vs (omega arith)));
-      here = refl;
-    }
+  module _ (vs : List ℕ) (l : i < length vs)
+      (so_far : onto (take i vs) (read_figures (drop i ks) (drop (place + i) ws)) ≡ read_figures ks (drop place ws))
+    where
+      missed : read_figures (drop i ks) (drop (place + i) ws) ≡ Err 0 → Missed ks ws place (place + i)
+      missed e = record {
+        off = i;
+        read = sym so_far ∙ ap (onto (take i vs)) e ∙ onto_err (take i vs) 0
+            ∙ ap Err (omega (arith, length-take-le i vs (omega arith)));
+        here = refl;
+      }
 
-    pub missed_end : length ws ≤ place + i → Missed ks ws place (place + i)
-    missed_end k = missed (at_end k)
+      pub missed_end : length ws ≤ place + i → Missed ks ws place (place + i)
+      missed_end k = missed (at_end k)
 
-    pub missed_wrong : place + i < length ws → eqb (kind_in (get_or ws (place + i) 0)) (kind_number (get_or ks i kind.Call)) ≡ false → Missed ks ws place (place + i)
-    missed_wrong k e = missed (at_wrong k e)
+      pub missed_wrong : place + i < length ws
+          → eqb (kind_in (get_or ws (place + i) 0)) (kind_number (get_or ks i kind.Call)) ≡ false
+          → Missed ks ws place (place + i)
+      missed_wrong k e = missed (at_wrong k e)
 
-    pub figure_more : place + i < length ws → eqb (kind_in (get_or ws (place + i) 0)) (kind_number (get_or ks i kind.Call)) ≡ true → (v : ℕ) → v ≡ value_in (get_or ws (place + i) 0) → onto (take (i + 1) (set vs i v)) (read_figures (drop (i + 1) ks) (drop (place + (i + 1)) ws)) ≡ read_figures ks (drop place ws)
-    figure_more k e v is =
-        let rest = read_figures (drop (i + 1) ks) (drop (place + (i + 1)) ws) in
-        ap (λ s. onto s rest) (take_more_set vs i v l)
-        ∙ onto_push (take i vs) v rest
-        ∙ ap (λ x. onto (take i vs) (further rest x)) is
-        ∙ ap (onto (take i vs)) (sym (at_right k e))
-        ∙ so_far
+      pub figure_more : place + i < length ws
+          → eqb (kind_in (get_or ws (place + i) 0)) (kind_number (get_or ks i kind.Call)) ≡ true → (v : ℕ)
+          → v ≡ value_in (get_or ws (place + i) 0)
+          → onto (take (i + 1) (set vs i v)) (read_figures (drop (i + 1) ks) (drop (place + (i + 1)) ws))
+          ≡ read_figures ks (drop place ws)
+      figure_more k e v is =
+          let rest = read_figures (drop (i + 1) ks) (drop (place + (i + 1)) ws) in
+          ap (λ s. onto s rest) (take_more_set vs i v l)
+          ∙ onto_push (take i vs) v rest
+          ∙ ap (λ x. onto (take i vs) (further rest x)) is
+          ∙ ap (onto (take i vs)) (sym (at_right k e))
+          ∙ so_far
 
-pub figures_all : (ks : List Kind) (ws : List ℕ) (place i : ℕ) (vs : List ℕ) → length ks ≤ i → onto (take i vs) (read_figures (drop i ks) (drop (place + i) ws)) ≡ read_figures ks (drop place ws) → read_figures ks (drop place ws) ≡ Ok (take i vs)
-figures_all ks ws place i vs h so_far = sym so_far ∙ ap (λ s. onto (take i vs) (read_figures s (drop (place + i) ws))) (drop_all i ks h) ∙ onto_ok (take i vs)
+pub figures_all : (ks : List Kind) (ws : List ℕ) (place i : ℕ) (vs : List ℕ) → length ks ≤ i
+    → onto (take i vs) (read_figures (drop i ks) (drop (place + i) ws)) ≡ read_figures ks (drop place ws)
+    → read_figures ks (drop place ws) ≡ Ok (take i vs)
+figures_all ks ws place i vs h so_far = sym so_far
+    ∙ ap (λ s. onto (take i vs) (read_figures s (drop (place + i) ws))) (drop_all i ks h) ∙ onto_ok (take i vs)
 
 -- as many figures as kinds, and as many words at least
 abbrev Long : ℕ → ℕ → List ℕ → Type 0
@@ -88,25 +104,40 @@ module _ (ws : List ℕ) (place : ℕ) where
 
   module _ (h : place < length ws) where
     pub stopped_kind : eqb (kind_in (get_or ws place 0)) 1 ≡ false → Stopped ws place place
-    stopped_kind e = record { off = 0; read = at_drop_more read_call ws place 0 h ∙ cond-false _ _ _ e; here = omega arith }
+    stopped_kind e = record {
+      off = 0;
+      read = at_drop_more read_call ws place 0 h ∙ cond-false _ _ _ e;
+      here = omega arith;
+    }
 
     module _ (e : eqb (kind_in (get_or ws place 0)) 1 ≡ true) (n : ℕ) (is : n ≡ value_in (get_or ws place 0)) where
       opened : read_call (drop place ws) ≡ with_shape n (shape_of n) (drop (place + 1) ws)
-      opened = at_drop_more read_call ws place 0 h ∙ cond-true _ _ _ e ∙ ap (λ m. with_shape m (shape_of m) (drop (place + 1) ws)) (sym is)
+      opened = at_drop_more read_call ws place 0 h ∙ cond-true _ _ _ e
+          ∙ ap (λ m. with_shape m (shape_of m) (drop (place + 1) ws)) (sym is)
 
       pub stopped_number : shape_of n ≡ None → Stopped ws place place
-      stopped_number s = record { off = 0; read = opened ∙ ap (λ o. with_shape n o (drop (place + 1) ws)) s; here = omega arith }
+      stopped_number s = record {
+        off = 0;
+        read = opened ∙ ap (λ o. with_shape n o (drop (place + 1) ws)) s;
+        here = omega arith;
+      }
 
       module _ (ks : List Kind) (s : shape_of n ≡ Some ks) where
         shaped : read_call (drop place ws) ≡ called n (read_figures ks (drop (place + 1) ws))
         shaped = opened ∙ ap (λ o. with_shape n o (drop (place + 1) ws)) s
 
         pub stopped_figure : (at : ℕ) → Missed ks ws (place + 1) at → Stopped ws place at
-        stopped_figure at m = record { off = m.off + 1; read = shaped ∙ ap (called n) m.read; here = omega (arith, m.here) }
+        stopped_figure at m = record {
+          off = m.off + 1;
+          read = shaped ∙ ap (called n) m.read;
+          here = omega (arith, m.here);
+        }
 
-        pub used_all : (vs : List ℕ) → read_figures ks (drop (place + 1) ws) ≡ Ok vs → Used ws place (call_of n vs) (place + 1 + length ks)
+        pub used_all : (vs : List ℕ) → read_figures ks (drop (place + 1) ws) ≡ Ok vs
+            → Used ws place (call_of n vs) (place + 1 + length ks)
         used_all vs r =
-            let l = IfOk-at_ok (Long (length ks) (length (drop (place + 1) ws))) r (figures_long ks (drop (place + 1) ws)) in
+            let l = IfOk-at_ok (Long (length ks) (length (drop (place + 1) ws))) r
+            (figures_long ks (drop (place + 1) ws)) in
             record {
               used = length vs + 1;
               read = shaped ∙ ap (called n) r;

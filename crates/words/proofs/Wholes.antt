@@ -1,6 +1,8 @@
 -- Reading on to the end: what was read so far, and what is read of the words that are left.
-use Rattle.std.proofs.Common.{◌≡◌, ℕ, ◌+◌, ◌<◌, ◌≤◌, List, [], ◌∷◌, ◌++◌, length, get_or, drop, IfOk, Ok, Err, Result, sym, refl, ap, ◌∙◌, arith}
-use Rattle.std.proofs.lemmas.List.{append_assoc, append-nil, drop_all, drop_more, drop-drop, length-drop, at_drop_more, at_drop_all}
+use Rattle.std.proofs.Common.{◌≡◌, ℕ, ◌+◌, ◌<◌, ◌≤◌, List, [], ◌∷◌, ◌++◌, length, get_or}
+use Rattle.std.proofs.Common.{drop, IfOk, Ok, Err, Result, sym, refl, ap, ◌∙◌, arith}
+use Rattle.std.proofs.lemmas.List.{append_assoc, append-nil, drop_all, drop_more}
+use Rattle.std.proofs.lemmas.List.{drop-drop, length-drop, at_drop_more, at_drop_all}
 use Rattle.calls.specs.declared.call.Answer.{Answer}
 use Rattle.calls.specs.declared.call.Call.{Call}
 use Rattle.calls.specs.declared.call.Call.TheVariants.{Day}
@@ -17,12 +19,17 @@ pub behind_none : {X : Type 0} (s : Reading X) → behind [] 0 s ≡ s
 behind_none (whole ys) = refl
 behind_none (halted ys at) = ap (halted ys) (omega arith)
 
-behind_add : {X : Type 0} (xs : List X) (place : ℕ) (x : X) (used : ℕ) (s : Reading X) → behind xs place (add x used s) ≡ behind (xs ++ x ∷ []) (place + used) s
+behind_add : {X : Type 0} (xs : List X) (place : ℕ) (x : X) (used : ℕ) (s : Reading X)
+    → behind xs place (add x used s) ≡ behind (xs ++ x ∷ []) (place + used) s
 behind_add xs place x used (whole ys) = ap whole (sym (append_assoc xs (x ∷ []) ys))
-behind_add xs place x used (halted ys at) = ap (λ zs. halted zs (place + (used + at))) (sym (append_assoc xs (x ∷ []) ys)) ∙ ap (halted ((xs ++ x ∷ []) ++ ys)) (omega arith)
+behind_add xs place x used (halted ys at) =
+    ap (λ zs. halted zs (place + (used + at))) (sym (append_assoc xs (x ∷ []) ys))
+    ∙ ap (halted ((xs ++ x ∷ []) ++ ys)) (omega arith)
 
 -- any list that is long enough serves
-enough_next : (f g ws : List ℕ) → ((used : ℕ) → 1 ≤ used → read_by f (drop used ws) ≡ read_by g (drop used ws)) → (r : Result (Call × ℕ) ℕ) → IfOk r (Front ws) → next r (λ used. read_by f (drop used ws)) ≡ next r (λ used. read_by g (drop used ws))
+enough_next : (f g ws : List ℕ) → ((used : ℕ) → 1 ≤ used → read_by f (drop used ws) ≡ read_by g (drop used ws))
+    → (r : Result (Call × ℕ) ℕ) → IfOk r (Front ws)
+    → next r (λ used. read_by f (drop used ws)) ≡ next r (λ used. read_by g (drop used ws))
 enough_next f g ws ih (Ok p) t = ap (add p.0 p.1) (ih p.1 (omega (arith, t.long)))
 enough_next f g ws ih (Err at) t = refl
 
@@ -38,7 +45,8 @@ enough (x ∷ f) (y ∷ g) (w ∷ ws) h k =
     (λ used l. let d = length-drop used (w ∷ ws) in enough f g (drop used (w ∷ ws)) (omega arith) (omega arith))
     (read_call (w ∷ ws)) (front (w ∷ ws))
 
-calls_step : (ws : List ℕ) (c : Call) (used : ℕ) → read_call ws ≡ Ok (c, used) → 1 ≤ used → read_calls ws ≡ add c used (read_calls (drop used ws))
+calls_step : (ws : List ℕ) (c : Call) (used : ℕ) → read_call ws ≡ Ok (c, used) → 1 ≤ used
+    → read_calls ws ≡ add c used (read_calls (drop used ws))
 calls_step [] c used e h = let z : ◌≡◌ {A = ℕ} 0 1 = cc in absurd (omega arith)
 calls_step (w ∷ ws) c used e h =
     let d = length-drop used (w ∷ ws) in
@@ -49,8 +57,10 @@ calls_stop : (ws : List ℕ) (at : ℕ) → 0 < length ws → read_call ws ≡ E
 calls_stop [] at h e = absurd (omega arith)
 calls_stop (w ∷ ws) at h e = ap (λ r. next r (λ u. read_by ws (drop u (w ∷ ws)))) e
 
-module _ (ws : List ℕ) (xs : List Call) (place : ℕ) (so_far : behind xs place (read_calls (drop place ws)) ≡ read_calls ws) where
-  pub read_more : (c : Call) (after : ℕ) → Used ws place c after → (zs : List Call) → zs ≡ xs ++ c ∷ [] → behind zs after (read_calls (drop after ws)) ≡ read_calls ws
+module _ (ws : List ℕ) (xs : List Call) (place : ℕ)
+    (so_far : behind xs place (read_calls (drop place ws)) ≡ read_calls ws) where
+  pub read_more : (c : Call) (after : ℕ) → Used ws place c after → (zs : List Call) → zs ≡ xs ++ c ∷ []
+      → behind zs after (read_calls (drop after ws)) ≡ read_calls ws
   read_more c after u zs is =
       ap (λ s. behind s after (read_calls (drop after ws))) is
       ∙ ap (λ n. behind (xs ++ c ∷ []) n (read_calls (drop n ws))) u.moved
@@ -60,33 +70,50 @@ module _ (ws : List ℕ) (xs : List Call) (place : ℕ) (so_far : behind xs plac
       ∙ so_far
 
   pub read_stop : place < length ws → (at : ℕ) → Stopped ws place at → (ys : List Call) × (read_calls ws ≡ halted ys at)
-  read_stop h at s = (xs ++ [], sym so_far ∙ ap (behind xs place) (calls_stop (drop place ws) s.off (omega (arith, length-drop place ws)) s.read) ∙ ap (halted (xs ++ [])) (sym s.here))
+  read_stop h at s = (
+    xs ++ [],
+    sym so_far
+        ∙ ap (behind xs place) (calls_stop (drop place ws) s.off (omega (arith, length-drop place ws)) s.read)
+        ∙ ap (halted (xs ++ [])) (sym s.here),
+  )
 
   pub read_all : length ws ≤ place → read_calls ws ≡ whole xs
   read_all h = sym so_far ∙ ap (λ s. behind xs place (read_calls s)) (drop_all place ws h) ∙ ap whole (append-nil xs)
 
 -- the answers to the calls from a place on
-module _ (cs : List Call) (ws : List ℕ) (xs : List Answer) (i place : ℕ) (so_far : behind xs place (read_answers (drop i cs) (drop place ws)) ≡ read_answers cs ws) where
-  turn : i < length cs → (r : Result (Answer × ℕ) ℕ) → read_answer (get_or cs i Day) (drop place ws) ≡ r → behind xs place (next r (λ used. read_answers (drop (i + 1) cs) (drop used (drop place ws)))) ≡ read_answers cs ws
+module _ (cs : List Call) (ws : List ℕ) (xs : List Answer) (i place : ℕ)
+    (so_far : behind xs place (read_answers (drop i cs) (drop place ws)) ≡ read_answers cs ws) where
+  turn : i < length cs → (r : Result (Answer × ℕ) ℕ) → read_answer (get_or cs i Day) (drop place ws) ≡ r
+      → behind xs place (next r (λ used. read_answers (drop (i + 1) cs) (drop used (drop place ws))))
+      ≡ read_answers cs ws
   turn h r e =
-      sym (ap (behind xs place) (at_drop_more (λ s. read_answers s (drop place ws)) cs i Day h ∙ ap (λ q. next q (λ used. read_answers (drop (i + 1) cs) (drop used (drop place ws)))) e)) ∙ so_far
+      sym (ap (behind xs place) (at_drop_more (λ s. read_answers s (drop place ws)) cs i Day h
+      ∙ ap (λ q. next q (λ used. read_answers (drop (i + 1) cs) (drop used (drop place ws)))) e)) ∙ so_far
 
-  pub answer_more : i < length cs → (a : Answer) (after : ℕ) → Replied (get_or cs i Day) ws place a after → (zs : List Answer) → zs ≡ xs ++ a ∷ [] → behind zs after (read_answers (drop (i + 1) cs) (drop after ws)) ≡ read_answers cs ws
+  pub answer_more : i < length cs → (a : Answer) (after : ℕ) → Replied (get_or cs i Day) ws place a after
+      → (zs : List Answer) → zs ≡ xs ++ a ∷ []
+      → behind zs after (read_answers (drop (i + 1) cs) (drop after ws)) ≡ read_answers cs ws
   answer_more h a after u zs is =
       ap (λ s. behind s after (read_answers (drop (i + 1) cs) (drop after ws))) is
       ∙ ap (λ n. behind (xs ++ a ∷ []) n (read_answers (drop (i + 1) cs) (drop n ws))) u.moved
-      ∙ ap (λ s. behind (xs ++ a ∷ []) (place + u.used) (read_answers (drop (i + 1) cs) s)) (sym (drop-drop u.used place ws))
+      ∙ ap (λ s. behind (xs ++ a ∷ []) (place + u.used) (read_answers (drop (i + 1) cs) s))
+      (sym (drop-drop u.used place ws))
       ∙ sym (behind_add xs place a u.used (read_answers (drop (i + 1) cs) (drop u.used (drop place ws))))
       ∙ turn h (Ok (a, u.used)) u.read
 
-  pub answer_stop : i < length cs → (at : ℕ) → Unreplied (get_or cs i Day) ws place at → (ys : List Answer) × (read_answers cs ws ≡ halted ys at)
+  pub answer_stop : i < length cs → (at : ℕ) → Unreplied (get_or cs i Day) ws place at
+      → (ys : List Answer) × (read_answers cs ws ≡ halted ys at)
   answer_stop h at s = (xs ++ [], sym (turn h (Err s.off) s.read) ∙ ap (halted (xs ++ [])) (sym s.here))
 
   at_end : length cs ≤ i → behind xs place (ended (drop place ws)) ≡ read_answers cs ws
   at_end h = sym (ap (behind xs place) (at_drop_all (λ s. read_answers s (drop place ws)) cs i h)) ∙ so_far
 
   pub answer_left : length cs ≤ i → place < length ws → (ys : List Answer) × (read_answers cs ws ≡ halted ys place)
-  answer_left h k = (xs ++ [], sym (at_end h) ∙ ap (λ s. behind xs place (ended s)) (drop_more ws place 0 k) ∙ ap (halted (xs ++ [])) (omega arith))
+  answer_left h k = (
+    xs ++ [],
+    sym (at_end h) ∙ ap (λ s. behind xs place (ended s)) (drop_more ws place 0 k)
+        ∙ ap (halted (xs ++ [])) (omega arith),
+  )
 
   pub answer_all : length cs ≤ i → length ws ≤ place → read_answers cs ws ≡ whole xs
   answer_all h k = sym (at_end h) ∙ ap (λ s. behind xs place (ended s)) (drop_all place ws k) ∙ ap whole (append-nil xs)

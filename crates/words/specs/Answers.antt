@@ -1,5 +1,7 @@
 -- Reading answers off words, beside the calls that they answer.
-use Rattle.std.specs.Prelude.{◌≡◌, ℕ, zero, suc, ◌+◌, ◌*◌, ◌/◌, ◌%◌, ◌≤◌, Bool, true, false, cond, not, ◌&&◌, ◌||◌, List, [], ◌∷◌, ◌++◌, length, drop, ℤ, pos, neg_ℤ, Some, None, Ok, Err, Option, Result, ◌==◌, nat_lt, slice_index, unsigned_abs}
+use Rattle.std.specs.Prelude.{◌≡◌, ℕ, zero, suc, ◌+◌, ◌*◌, ◌/◌, ◌%◌, ◌≤◌, Bool, true, false, cond, not}
+use Rattle.std.specs.Prelude.{◌&&◌, ◌||◌, List, [], ◌∷◌, ◌++◌, length, drop, ℤ, pos, neg_ℤ, Some, None}
+use Rattle.std.specs.Prelude.{Ok, Err, Option, Result, ◌==◌, nat_lt, slice_index, unsigned_abs}
 use Rattle.std.specs.Option.{unwrap_or}
 use Rattle.calls.specs.Refusals.{refusal_at, lacking_day}
 use Rattle.calls.specs.Statuses.{status_at}
@@ -92,9 +94,11 @@ line_highs [] = []
 line_highs (x ∷ xs) = unsigned_abs x / 100000000 ∷ line_highs xs
 
 abbrev pub stated_fits : Statement → Bool
-stated_fits s = fit (s.term ∷ s.pool ∷ s.next ∷ unsigned_abs s.balance ∷ s.on_offer ∷ line_highs s.lines) && length s.lines == 5
+stated_fits s = fit (s.term ∷ s.pool ∷ s.next ∷ unsigned_abs s.balance ∷ s.on_offer ∷ line_highs s.lines)
+    && length s.lines == 5
 
--- An answer is one that the call can have, and its figures fit: done, by a statement where the call asks for one, or refused.
+-- An answer is one that the call can have, and its figures fit: done, by a statement where the call asks for
+-- one, or refused.
 abbrev pub answer_fits : Call → Answer → Bool
 answer_fits c (Done n) = not (is_statement c) && nat_lt n 268435456
 answer_fits c (Stated s) = is_statement c && stated_fits s

@@ -1,7 +1,8 @@
 -- Words: 32 bits, the kind in the top 4 and the value in the low 28.
 use Rattle.std.specs.Prelude.{ℕ, ◌+◌, ◌*◌, ◌/◌, ◌%◌}
 use Rattle.words.specs.declared.kind.Kind.{Kind}
-use Rattle.words.specs.declared.kind.Kind.TheVariants.{Call, Number, Day, Volume, Point, Figure, Below, Done, Refused, Status}
+use Rattle.words.specs.declared.kind.Kind.TheVariants.{Call, Number, Day, Volume, Point}
+use Rattle.words.specs.declared.kind.Kind.TheVariants.{Figure, Below, Done, Refused, Status}
 
 abbrev pub kind_number : Kind → ℕ
 kind_number Call = 1

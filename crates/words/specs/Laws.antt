@@ -11,7 +11,8 @@ use Rattle.words.specs.Writing.{call_words, answer_words, fit}
 
 -- A call whose figures fit, written and read back, is the same call, whatever words follow, and those are left unread.
 abbrev pub CallReturns : Type 0
-CallReturns = (c : Call) (ws : List ℕ) → fit (figures_of c) ≡ true → read_call (call_words c ++ ws) ≡ Ok (c, length (call_words c))
+CallReturns = (c : Call) (ws : List ℕ) → fit (figures_of c) ≡ true
+    → read_call (call_words c ++ ws) ≡ Ok (c, length (call_words c))
 
 -- A list of such calls, written and read back, is the same list.
 abbrev pub CallsReturn : Type 0
@@ -29,14 +30,18 @@ StopsAreExact = (ws : List ℕ) (cs : List Call) (at : ℕ) → read_calls ws �
 abbrev pub AnswersAreCounted : Type 0
 AnswersAreCounted = (c : Call) (a : Answer) → answer_fits c a ≡ true → length (answer_words a) ≡ answer_count a
 
--- An answer that its call can have and whose figures fit, written and read back, is the same answer, whatever words follow.
+-- An answer that its call can have and whose figures fit, written and read back, is the same answer, whatever words
+-- follow.
 abbrev pub AnswerReturns : Type 0
-AnswerReturns = (c : Call) (a : Answer) (ws : List ℕ) → answer_fits c a ≡ true → read_answer c (answer_words a ++ ws) ≡ Ok (a, length (answer_words a))
+AnswerReturns = (c : Call) (a : Answer) (ws : List ℕ) → answer_fits c a ≡ true
+    → read_answer c (answer_words a ++ ws) ≡ Ok (a, length (answer_words a))
 
 -- Such answers beside their calls, written and read back, are the same answers.
 abbrev pub AnswersReturn : Type 0
-AnswersReturn = (cs : List Call) (rs : List Answer) → answers_fit cs rs ≡ true → read_answers cs (answers_words rs) ≡ whole rs
+AnswersReturn = (cs : List Call) (rs : List Answer) → answers_fit cs rs ≡ true
+    → read_answers cs (answers_words rs) ≡ whole rs
 
 -- Words that are read to the end as answers are the writing of these answers.
 abbrev pub AnswerWordsReturn : Type 0
-AnswerWordsReturn = (cs : List Call) (ws : List ℕ) (rs : List Answer) → read_answers cs ws ≡ whole rs → answers_words rs ≡ ws
+AnswerWordsReturn = (cs : List Call) (ws : List ℕ) (rs : List Answer) → read_answers cs ws ≡ whole rs
+    → answers_words rs ≡ ws

@@ -1,5 +1,6 @@
 -- Writing lists of calls.
-use Rattle.std.specs.Prelude.{◌≡◌, ℕ, Bool, true, false, cond, ◌&&◌, List, [], ◌∷◌, ◌++◌, length, is_ok, IfOk, IfErr, Ok, Err, vec_items, Result, Vec, nat_le}
+use Rattle.std.specs.Prelude.{◌≡◌, ℕ, Bool, true, false, cond, ◌&&◌, List, [], ◌∷◌, ◌++◌, length}
+use Rattle.std.specs.Prelude.{is_ok, IfOk, IfErr, Ok, Err, vec_items, Result, Vec, nat_le}
 use Rattle.std.specs.declared.alloc.Global.{Global}
 use Rattle.calls.specs.declared.call.Call.{Call}
 use Rattle.words.specs.Shapes.{figures_of}

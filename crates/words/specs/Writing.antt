@@ -1,5 +1,6 @@
 -- Writing calls and answers as words.
-use Rattle.std.specs.Prelude.{ℕ, suc, ◌/◌, ◌%◌, Bool, true, cond, ◌&&◌, List, [], ◌∷◌, ◌++◌, ℤ, pos, negsuc, nat_lt, unsigned_abs}
+use Rattle.std.specs.Prelude.{ℕ, suc, ◌/◌, ◌%◌, Bool, true, cond, ◌&&◌, List, []}
+use Rattle.std.specs.Prelude.{◌∷◌, ◌++◌, ℤ, pos, negsuc, nat_lt, unsigned_abs}
 use Rattle.std.specs.Option.{unwrap_or}
 use Rattle.calls.specs.Refusals.{number_of, lacking_day}
 use Rattle.calls.specs.Statuses.{status_number}

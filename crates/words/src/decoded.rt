@@ -4,7 +4,8 @@ ghost use Rattle.std.specs.Option.{unwrap_or};
 ghost use Rattle.calls.specs.Statuses.{status_at};
 ghost use Rattle.calls.specs.declared.status.Status.TheVariants.{Waiting};
 ghost use Rattle.words.specs.Kinds.{value_in};
-ghost use Rattle.words.specs.Answers.{Reply, Replied, Unreplied, answer_in, stated_in, line_in, lines_in, signed_by, signed_in, refusal_in, differs};
+ghost use Rattle.words.specs.Answers.{Reply, Replied, Unreplied, answer_in, stated_in, line_in};
+ghost use Rattle.words.specs.Answers.{lines_in, signed_by, signed_in, refusal_in, differs};
 
 use crate::encoded::encode;
 use crate::figures::figure;
@@ -14,7 +15,8 @@ use crate::reader::Reader;
 use calls::{Answer, Call, Refusal, Stated as Statement, Status};
 
 impl<'a> Reader<'a> {
-    // The answer to a call; or the place of the first word that is wrong or missing, and then the reader stays where it is.
+    // The answer to a call; or the place of the first word that is wrong or missing, and then the reader stays where
+    // it is.
     pub fn answer(&mut self, call: &Call) -> Result<Answer, usize>
         ensures read { Reply call.now self.old.words.now self.old.place result self.new.place }
         ensures same { self.new.words.now ≡ self.old.words.now }
@@ -27,7 +29,9 @@ impl<'a> Reader<'a> {
 
 // The answer at a place of the words and the place past it, or the place of the word that stops it.
 fn answer_at(call: &Call, words: &[u32], place: usize) -> Result<(Answer, usize), usize>
-    ensures { MatchResult result (λ p. Replied call.now words.now place p.0 p.1) (λ at. Unreplied call.now words.now place at) }
+    ensures { MatchResult result
+        (λ p. Replied call.now words.now place p.0 p.1)
+        (λ at. Unreplied call.now words.now place at) }
 {
     let rest = rest_of(words, place);
     let answer = answer_in(call, rest);

@@ -60,7 +60,9 @@ fn call_at(words: &[u32], place: usize) -> Result<(Call, usize), usize>
 // The figures of these kinds from a place on, or the place of the first wrong or missing word.
 fn figures_at(kinds: &[Kind], words: &[u32], place: usize) -> Result<Figures, usize>
     requires { (length kinds.now ≤ 8) × (place ≤ length words.now) }
-    ensures { MatchResult result (λ f. read_figures kinds.now (drop place words.now) ≡ Ok (take f.count f.values)) (λ at. Missed kinds.now words.now place at) }
+    ensures { MatchResult result
+        (λ f. read_figures kinds.now (drop place words.now) ≡ Ok (take f.count f.values))
+        (λ at. Missed kinds.now words.now place at) }
 {
     let mut values = [0; MOST];
     for i in 0..kinds.len() {

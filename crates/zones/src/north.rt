@@ -1,4 +1,5 @@
-// The northern ledger: no balance is carried, one reference price for all three sources, 500,000 suspended at each point.
+// The northern ledger: no balance is carried, one reference price for all three sources, 500,000 suspended at each
+// point.
 ghost use Rattle.std.specs.Prelude.{◌≡◌, IfOk, IfErr};
 ghost use Rattle.ledger.specs.Book.{new_book};
 ghost use Rattle.ledger.specs.Meanings.{meaning};
@@ -17,7 +18,8 @@ pub type NorthLedger = Ledger<North, Reference, Reference, Reference>;
 // A new northern ledger, refused if the price is above 10,000,000.
 pub fn north_ledger(heap: Global, price: u32) -> Result<NorthLedger, NotMade>
     ensures tables { IfOk result (λ l. view l.tables ≡ new_book north_allowances) }
-    ensures means { IfOk result (λ l. meaning north_rule reference_means reference_means reference_means l.zone ≡ north_means price) }
+    ensures means { IfOk result (λ l.
+        meaning north_rule reference_means reference_means reference_means l.zone ≡ north_means price) }
     ensures refused { IfErr result (NorthUnmade price) }
 {
     let source = north_price(price)?;

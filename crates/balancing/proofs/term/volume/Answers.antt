@@ -7,4 +7,8 @@ pub overflow_mul-result : goal.overflow_mul-result
 overflow_mul-result c = omega (arith, mul-le c.args.mdv c.args.days 500000 366 (omega arith) (omega arith))
 
 pub returns : goal.returns
-returns c = record { test = grind (arith, nat_tests); volume = refl; most = mul-le _ _ 500000 366 (omega arith) (omega arith) }
+returns c = record {
+  test = grind (arith, nat_tests);
+  volume = refl;
+  most = mul-le _ _ 500000 366 (omega arith) (omega arith);
+}

@@ -13,9 +13,12 @@ loop-i-preserved c =
     let words = c.args.answer.now.words in
     let h : c.args.at + i < length c.args.answers.now = omega arith in
     let k : i < length words = search rules in
-    ap (λ (x : List _). set x (c.args.at + i) (get_or words i 0)) c.loop-i.invariant ∙ paste_more c.args.answers.now c.args.at words i 0 h k
+    ap (λ (x : List _). set x (c.args.at + i) (get_or words i 0)) c.loop-i.invariant
+    ∙ paste_more c.args.answers.now c.args.at words i 0 h k
 
 pub returns : goal.returns
 returns c =
     let e : c.loop-i.i ≡ c.args.answer.now.len = omega arith in
-    c.loop-i.invariant ∙ ap (paste c.args.answers.now c.args.at c.args.answer.now.words) e ∙ append_assoc (take c.args.at c.args.answers.now) (take c.args.answer.now.len c.args.answer.now.words) (drop (c.args.at + c.args.answer.now.len) c.args.answers.now)
+    c.loop-i.invariant ∙ ap (paste c.args.answers.now c.args.at c.args.answer.now.words) e
+    ∙ append_assoc (take c.args.at c.args.answers.now) (take c.args.answer.now.len c.args.answer.now.words)
+    (drop (c.args.at + c.args.answer.now.len) c.args.answers.now)

@@ -10,8 +10,12 @@ returns g c =
     let long : length c.book.new.table ≡ c.args.table.now.len = search rules in
     let held = with_items_is c.args.table.now c.book.new.table long in
     record {
-      booked = subst (λ (rows : List (Row g.row.N g.row.LIMIT)). Booked g.row.LIMIT (rows_of g.row.N g.row.LIMIT c.args.table.now.items) c.args.at c.args.more.now c.book.result (rows_of g.row.N g.row.LIMIT rows)) (sym held)
-          (subst (λ (rows : List (Row g.row.N g.row.LIMIT)). Booked g.row.LIMIT (rows_of g.row.N g.row.LIMIT rows) c.args.at c.args.more.now c.book.result (rows_of g.row.N g.row.LIMIT c.book.new.table)) same c.book.ensures);
+      booked = subst (λ (rows : List (Row g.row.N g.row.LIMIT)). Booked g.row.LIMIT
+          (rows_of g.row.N g.row.LIMIT c.args.table.now.items) c.args.at c.args.more.now c.book.result
+          (rows_of g.row.N g.row.LIMIT rows)) (sym held)
+          (subst (λ (rows : List (Row g.row.N g.row.LIMIT)). Booked g.row.LIMIT
+          (rows_of g.row.N g.row.LIMIT rows) c.args.at c.args.more.now c.book.result
+          (rows_of g.row.N g.row.LIMIT c.book.new.table)) same c.book.ensures);
       len = search rules;
       capacity = search rules;
     }

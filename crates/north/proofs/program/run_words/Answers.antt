@@ -8,4 +8,5 @@ pub returns : goal.returns
 returns c =
     let input = c.args.input.now in
     let h : 0 < length input = omega (arith, eqb-false (length input) 0 (sym c.if-is_empty.ensures)) in
-    same_output c.run_priced.result _ (north_run input) (behind input c.in-Some.price h c.in-Some.ensures) c.run_priced.ensures
+    same_output c.run_priced.result _ (north_run input)
+    (behind input c.in-Some.price h c.in-Some.ensures) c.run_priced.ensures

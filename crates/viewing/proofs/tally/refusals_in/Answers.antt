@@ -4,7 +4,8 @@ use Rattle.viewing.proofs.tally.refusals_in.Goals as goal
 
 pub loop-entry-preserved : goal.loop-entry-preserved
 loop-entry-preserved c = (
-  one_more c.args.entries.now c.loop-entry.entry-index c.loop-entry.count c.refusal-count.result _ c.loop-entry-test.true c.refusal-count.ensures.value c.loop-entry.invariant.0,
+  one_more c.args.entries.now c.loop-entry.entry-index c.loop-entry.count c.refusal-count.result _
+      c.loop-entry-test.true c.refusal-count.ensures.value c.loop-entry.invariant.0,
   omega (arith, c.refusal-count.ensures.bound),
 )
 

@@ -10,8 +10,13 @@ loop-i-init c = (sym (append-nil (take 8 c.args.words.now)), c.told-words)
 
 pub loop-i-preserved : goal.loop-i-preserved
 loop-i-preserved c =
-    let p : c.line_words-whole.result.0 ∷ c.line_words-whole.result.1 ∷ [] ≡ line_words (get_or c.args.lines.now c.loop-i.i (pos 0)) = grind (arith, to_z-of_z) in
-    (line_more c.loop-i.words (take 8 c.args.words.now) c.args.lines.now c.loop-i.i (omega arith) (omega arith) c.loop-i.invariant.0 _ _ p, simp length-set c.loop-i.invariant.1)
+    let p : c.line_words-whole.result.0 ∷ c.line_words-whole.result.1 ∷ []
+    ≡ line_words (get_or c.args.lines.now c.loop-i.i (pos 0)) = grind (arith, to_z-of_z) in (
+      line_more c.loop-i.words (take 8 c.args.words.now) c.args.lines.now c.loop-i.i (omega arith)
+          (omega arith) c.loop-i.invariant.0 _ _ p,
+      simp length-set c.loop-i.invariant.1,
+    )
 
 pub returns : goal.returns
-returns c = lines_all c.loop-i.words (take 8 c.args.words.now) c.args.lines.now c.loop-i.i (omega arith) c.told-lines c.loop-i.invariant.0
+returns c = lines_all c.loop-i.words (take 8 c.args.words.now) c.args.lines.now c.loop-i.i
+    (omega arith) c.told-lines c.loop-i.invariant.0

@@ -8,23 +8,33 @@ use Rattle.words.proofs.journal.read_answers.Goals as goal
 
 pub returns-in-Err : goal.returns-in-Err
 returns-in-Err c =
-    let u = subst (λ ws. Unreplied (get_or c.args.calls.now c.loop-call.call-index Day) ws c.loop-call.reader.place c.in-Err.at) c.loop-call.invariant.0 c.in-Err.ensures.read.0 in
-    answer_stop c.args.calls.now c.args.words.now (vec_items c.loop-call.answers) c.loop-call.call-index c.loop-call.reader.place c.loop-call.invariant.1 c.loop-call-test.true c.in-Err.at u
+    let u = subst (λ ws. Unreplied (get_or c.args.calls.now c.loop-call.call-index Day) ws c.loop-call.reader.place
+    c.in-Err.at) c.loop-call.invariant.0 c.in-Err.ensures.read.0 in
+    answer_stop c.args.calls.now c.args.words.now
+    (vec_items c.loop-call.answers) c.loop-call.call-index c.loop-call.reader.place c.loop-call.invariant.1
+    c.loop-call-test.true c.in-Err.at u
 
 pub loop-call-preserved : goal.loop-call-preserved
 loop-call-preserved c =
-    let u = subst (λ ws. Replied (get_or c.args.calls.now c.loop-call.call-index Day) ws c.loop-call.reader.place c.in-Ok.answer c.answer.new.self.place) c.loop-call.invariant.0 c.in-Ok.ensures.read in
+    let u = subst (λ ws. Replied (get_or c.args.calls.now c.loop-call.call-index Day) ws c.loop-call.reader.place
+    c.in-Ok.answer c.answer.new.self.place) c.loop-call.invariant.0 c.in-Ok.ensures.read in
     let items = pushed (c.in-Ok.answer ∷ []) refl c.in_ok-push-in-Ok.was c.push.ensures.items in (
       c.in-Ok.ensures.same ∙ c.loop-call.invariant.0,
-      answer_more c.args.calls.now c.args.words.now (vec_items c.loop-call.answers) c.loop-call.call-index c.loop-call.reader.place c.loop-call.invariant.1 c.loop-call-test.true c.in-Ok.answer c.answer.new.self.place u (vec_items c.push.new.self) items,
+      answer_more c.args.calls.now c.args.words.now
+          (vec_items c.loop-call.answers) c.loop-call.call-index c.loop-call.reader.place c.loop-call.invariant.1
+          c.loop-call-test.true c.in-Ok.answer c.answer.new.self.place u (vec_items c.push.new.self) items,
     )
 
 pub returns-then-not-is_done : goal.returns-then-not-is_done
 returns-then-not-is_done c =
-    answer_left c.args.calls.now c.args.words.now (vec_items c.loop-call.answers) c.loop-call.call-index c.loop-call.reader.place c.loop-call.invariant.1 c.loop-call-test.false
+    answer_left c.args.calls.now c.args.words.now
+    (vec_items c.loop-call.answers) c.loop-call.call-index c.loop-call.reader.place c.loop-call.invariant.1
+    c.loop-call-test.false
     (omega (arith, ap length c.loop-call.invariant.0, leb-false _ _ (sym c.is_done.ensures ∙ c.if-not-is_done.true)))
 
 pub returns : goal.returns
 returns c =
-    answer_all c.args.calls.now c.args.words.now (vec_items c.loop-call.answers) c.loop-call.call-index c.loop-call.reader.place c.loop-call.invariant.1 c.loop-call-test.false
+    answer_all c.args.calls.now c.args.words.now
+    (vec_items c.loop-call.answers) c.loop-call.call-index c.loop-call.reader.place c.loop-call.invariant.1
+    c.loop-call-test.false
     (omega (arith, ap length c.loop-call.invariant.0, leb-true _ _ (sym c.is_done.ensures ∙ c.if-not-is_done.false)))

@@ -2,4 +2,9 @@ use Rattle.words.proofs.Replies.{answers_are_counted, answer_returns, answers_re
 use Rattle.words.proofs.laws.answers_stand.Goals as goal
 
 pub returns : goal.returns
-returns c = record { counted = answers_are_counted; answer = answer_returns; answers = answers_return; words = answer_words_return }
+returns c = record {
+  counted = answers_are_counted;
+  answer = answer_returns;
+  answers = answers_return;
+  words = answer_words_return;
+}

@@ -14,7 +14,11 @@ returns-in_default g c =
     let h : i < length xs = omega arith in
     let k : i < length ys = search rules in
     let a = so_far_at i xs ys (pos 0) in
-    record { test = sym (within_fails g.row.LIMIT i xs ys (pos 0) h k (grind (arith, to_z-of_z))); made = tt; refused = refl }
+    record {
+      test = sym (within_fails g.row.LIMIT i xs ys (pos 0) h k (grind (arith, to_z-of_z)));
+      made = tt;
+      refused = refl;
+    }
 
 pub loop-i-preserved : goal.loop-i-preserved
 loop-i-preserved g c =
@@ -25,7 +29,8 @@ loop-i-preserved g c =
     let k : i < length ys = search rules in
     let a = so_far_at i xs ys (pos 0) in
     let s = so_far_more i xs ys (pos 0) h k in
-    let w = within_set g.row.LIMIT c.loop-i.figures i c.in-Some.sum c.loop-i.invariant.1 (le-leb _ _ c.in-Some.ensures.1) in
+    let w = within_set g.row.LIMIT c.loop-i.figures i c.in-Some.sum c.loop-i.invariant.1
+    (le-leb _ _ c.in-Some.ensures.1) in
     (grind (arith, to_z-of_z), grind (arith, to_z-of_z), grind (arith, to_z-of_z, length-set))
 
 pub returns : goal.returns

@@ -6,4 +6,5 @@ use Rattle.balancing.proofs.edges.Edges.split.Goals as goal
 
 pub returns : goal.returns
 returns c =
-    splits (band_of c.args.self.now) c.args.balance _ _ c.args.self.now.ordered (grind (arith, to_z-of_z)) (omega (arith, ints))
+    splits (band_of c.args.self.now) c.args.balance _ _ c.args.self.now.ordered (grind (arith, to_z-of_z))
+    (omega (arith, ints))

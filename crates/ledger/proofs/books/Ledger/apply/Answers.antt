@@ -5,6 +5,11 @@ use Rattle.ledger.proofs.books.Ledger.apply.Goals as goal
 
 pub returns : goal.returns
 returns g c =
-    let m = meaning g.B.BalancingRule.band g.O.PriceSource.quote g.S.PriceSource.quote g.E.PriceSource.quote c.args.self.now.zone in
+    let m = meaning g.B.BalancingRule.band g.O.PriceSource.quote g.S.PriceSource.quote g.E.PriceSource.quote
+    c.args.self.now.zone in
     let met = c.make.ensures.call in
-    record { call = met; keeps = meets_keeps m (view c.args.self.now.tables) _ c.args.call _ met; zone = c.make.ensures.zone }
+    record {
+      call = met;
+      keeps = meets_keeps m (view c.args.self.now.tables) _ c.args.call _ met;
+      zone = c.make.ensures.zone;
+    }
