@@ -1,11 +1,12 @@
 #!/usr/bin/env python3
-"""Spells the repository's own definitions and lemmas as today's Rattle spells names: words in snake case, facts in camel case.
+"""Spells the repository's own definitions and lemmas as today's Rattle spells names.
 
 usage: python3 tools/respell.py         at the top, once, right after the kit's port.py
        python3 tools/respell.py --list  prints the old names with the new ones, and changes nothing
 
-A name of ours is one that a file of specs/ or proofs/ defines with a dash in it. `Is-month` becomes `IsMonth`, and
-`month-of` becomes `month_of`. What the kit names keeps its spelling: its lemmas, and the goals that a check prints.
+A name of ours is one that a file of specs/ or proofs/ defines with a dash in it. `Is-month` becomes `IsMonth`, since
+facts are in camel case, and `month-of` becomes `month_of`, since words are in snake case. What the kit names keeps its
+spelling: its lemmas, and the goals that a check prints.
 """
 
 import os
@@ -20,10 +21,6 @@ DEFINED = re.compile(
 NAME = re.compile(r"(?<![\w'·-])[A-Za-z][\w']*(?:-[\w']+)+(?![\w'-])")
 # The kit has the same name for a lemma of its own.
 KIT = re.compile(r"use Rattle\.(?:std|core)\S*\.\{([^}]*)\}")
-# These begin with a fact of the kit, which keeps its capital, and are lemmas.
-LEMMAS = {"All-weaker": "All_weaker"}
-# These would fall together with a name of the code that the same clauses read.
-APART = {}
 
 
 def texts():
@@ -35,10 +32,6 @@ def texts():
 
 
 def spelled(name):
-    if name in LEMMAS:
-        return LEMMAS[name]
-    if name in APART:
-        return APART[name]
     if name[0].isupper():
         return "".join(word[0].upper() + word[1:] for word in name.split("-"))
     return name.replace("-", "_")
