@@ -1,14 +1,12 @@
-// The ledger's calls over every balancing rule and price source.
+// The ledger's calls over every rate zone.
 ghost use Rattle.std.specs.Prelude.{◌≡◌};
 ghost use Rattle.ledger.specs.Calls.{Meets, post_call, step, answered, stated};
 ghost use Rattle.ledger.specs.Laws.{Keeps};
-ghost use Rattle.ledger.specs.Meanings.{meaning};
 ghost use Rattle.ledger.specs.View.{view};
 
 use crate::books::Ledger;
-use balancing::BalancingRule;
+use crate::rate_zone::RateZone;
 use calls::{Answer, Call, Refusal, Stated};
-use prices::PriceSource;
 
 // A call's result as its answer.
 fn answer(res: Result<u32, Refusal>) -> Answer
@@ -29,24 +27,23 @@ fn statement(res: Result<Stated, Refusal>) -> Answer
     }
 }
 
-impl<B: BalancingRule, O: PriceSource, S: PriceSource, E: PriceSource> Ledger<B, O, S, E> {
+impl<Z: RateZone> Ledger<Z> {
     // Books a term's next unposted day and answers it.
     fn post(&mut self, term: u32, delivered: u32, consumed: u32) -> Result<u32, Refusal>
         ensures call { Meets
-            (post_call (O.PriceSource.quote self.old.zone.overrun) (view self.old.tables) term delivered consumed)
+            (post_call (Z.means self.old.zone).overrun (view self.old.tables) term delivered consumed)
             (answered result) (view self.new.tables) }
         ensures zone { self.new.zone ≡ self.old.zone }
     {
         let posting = self.tables.plan_post(term, delivered, consumed)?;
-        let owed = posting.owed(&self.zone.overrun)?;
+        let owed = posting.owed(&self.zone)?;
         self.tables.book_post(posting, owed)
     }
 
     // The call, one row for each.
     fn make(&mut self, call: Call) -> Answer
         ensures call { Meets
-            (step (meaning B.BalancingRule.band O.PriceSource.quote S.PriceSource.quote E.PriceSource.quote self.old.zone)
-            (view self.old.tables) call)
+            (step (Z.means self.old.zone) (view self.old.tables) call)
             result (view self.new.tables) }
         ensures zone { self.new.zone ≡ self.old.zone }
     {
@@ -71,8 +68,7 @@ impl<B: BalancingRule, O: PriceSource, S: PriceSource, E: PriceSource> Ledger<B,
     // Makes a call: its answer and the state after it are the book's, and a refused call changes nothing.
     pub fn apply(&mut self, call: Call) -> Answer
         ensures call { Meets
-            (step (meaning B.BalancingRule.band O.PriceSource.quote S.PriceSource.quote E.PriceSource.quote self.old.zone)
-            (view self.old.tables) call)
+            (step (Z.means self.old.zone) (view self.old.tables) call)
             result (view self.new.tables) }
         ensures keeps { Keeps (view self.old.tables) result (view self.new.tables) }
         ensures zone { self.new.zone ≡ self.old.zone }

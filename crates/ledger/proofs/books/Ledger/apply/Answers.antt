@@ -1,12 +1,10 @@
-use Rattle.ledger.specs.Meanings.{meaning}
 use Rattle.ledger.specs.View.{view}
 use Rattle.ledger.proofs.Keeping.{meets_keeps}
 use Rattle.ledger.proofs.books.Ledger.apply.Goals as goal
 
 pub returns : goal.returns
 returns g c =
-    let m = meaning g.B.BalancingRule.band g.O.PriceSource.quote g.S.PriceSource.quote g.E.PriceSource.quote
-    c.args.self.now.zone in
+    let m = g.Z.RateZone.means c.args.self.now.zone in
     let met = c.make.ensures.call in
     record {
       call = met;
