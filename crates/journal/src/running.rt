@@ -11,6 +11,7 @@ use ledger::{Ledger, RateZone};
 use words::{Reader, encode};
 
 // Reads the words to their end or to a stop, makes each call that is read, and writes the answers.
+// Kept: the C interface needs it: it lends the answer memory, and learns how much of it is written.
 pub fn run<Z: RateZone>(ledger: &mut Ledger<Z>, words: &[u32], answers: &mut [u32]) -> Ran
     ensures ran { Runs
         (run (Z.means ledger.old.zone) words.now (length answers.old) (view ledger.old.tables))

@@ -1,31 +1,12 @@
 // The ledger's calls over every rate zone.
 ghost use Rattle.std.specs.Prelude.{◌≡◌};
-ghost use Rattle.ledger.specs.Calls.{Meets, post_call, step, answered, stated};
+ghost use Rattle.ledger.specs.Calls.{Meets, post_call, step, answered, given};
 ghost use Rattle.ledger.specs.Laws.{Keeps};
 ghost use Rattle.ledger.specs.View.{view};
 
 use crate::books::Ledger;
 use crate::rate_zone::RateZone;
-use calls::{Answer, Call, Refusal, Stated};
-
-// A call's result as its answer.
-fn answer(res: Result<u32, Refusal>) -> Answer
-    ensures { result ≡ answered res }
-{
-    match res {
-        Ok(figure) => Answer::Done(figure),
-        Err(refusal) => Answer::Refused(refusal),
-    }
-}
-
-fn statement(res: Result<Stated, Refusal>) -> Answer
-    ensures { result ≡ stated res }
-{
-    match res {
-        Ok(stated) => Answer::Stated(stated),
-        Err(refusal) => Answer::Refused(refusal),
-    }
-}
+use calls::{Answer, Call, Refusal};
 
 impl<Z: RateZone> Ledger<Z> {
     // Books a term's next unposted day and answers it.
@@ -41,28 +22,28 @@ impl<Z: RateZone> Ledger<Z> {
     }
 
     // The call, one row for each.
-    fn make(&mut self, call: Call) -> Answer
+    fn make(&mut self, call: Call) -> Result<Answer, Refusal>
         ensures call { Meets
             (step (Z.means self.old.zone) (view self.old.tables) call)
-            result (view self.new.tables) }
+            (given result) (view self.new.tables) }
         ensures zone { self.new.zone ≡ self.old.zone }
     {
-        match call {
-            Call::Day => answer(self.tables.turn()),
+        Ok(match call {
+            Call::Day => Answer::Done(self.tables.turn()?),
             Call::Open {
                 pool,
                 point,
                 mdv,
                 first,
                 last,
-            } => answer(self.tables.open(pool, point, mdv, first, last)),
+            } => Answer::Done(self.tables.open(pool, point, mdv, first, last)?),
             Call::Post {
                 term,
                 delivered,
                 consumed,
-            } => answer(self.post(term, delivered, consumed)),
-            Call::Statement { term } => statement(self.tables.state(term)),
-        }
+            } => Answer::Done(self.post(term, delivered, consumed)?),
+            Call::Statement { term } => Answer::Stated(self.tables.state(term)?),
+        })
     }
 
     // Makes a call: its answer and the state after it are the book's, and a refused call changes nothing.
@@ -73,6 +54,6 @@ impl<Z: RateZone> Ledger<Z> {
         ensures keeps { Keeps (view self.old.tables) result (view self.new.tables) }
         ensures zone { self.new.zone ≡ self.old.zone }
     {
-        self.make(call)
+        self.make(call).unwrap_or_else(Answer::Refused)
     }
 }
