@@ -1,15 +1,14 @@
 -- Every answer of a ledger fits its words, by the ranges that the tables keep.
-use Rattle.std.proofs.Common.{◌≡◌, ℕ, ◌/◌, ◌<◌, ◌≤◌, Bool, true, eqb, ltb, leb, List, [], ◌∷◌}
+use Rattle.std.proofs.Common.{◌≡◌, ℕ, ◌≤◌, true, ltb, leb, List, [], ◌∷◌}
 use Rattle.std.proofs.Common.{length, get_or, ℤ, pos, nat_abs, Ok, Err, Result, refl, arith}
-use Rattle.std.proofs.lemmas.Bool.{cond_both, lt-ltb, ltb-false, leb-true, eq-eqb, and_from, and_parts, or_parts}
+use Rattle.std.proofs.lemmas.Bool.Decides.{nat_tests}
+use Rattle.std.proofs.lemmas.Bool.{cond_both, lt-ltb}
 use Rattle.amounts.specs.Rows.{within}
-use Rattle.calls.specs.Refusals.{lacking_day}
 use Rattle.calls.specs.declared.call.Call.{Call}
 use Rattle.calls.specs.declared.call.Call.TheVariants.{Day, Open, Post, Statement}
-use Rattle.calls.specs.declared.refusal.Refusal.{Refusal}
-use Rattle.ledger.specs.Book.{State, Term, missing, term_at}
-use Rattle.ledger.specs.Calls.{Outcome, Meaning, first_of, step, day_refusals, day_done}
-use Rattle.ledger.specs.Calls.{open_refusals, open_done, post_refusals, post_done, owed, priced, lack_in}
+use Rattle.ledger.specs.Book.{Term, missing, term_at}
+use Rattle.ledger.specs.Calls.{Outcome, Meaning, step}
+use Rattle.ledger.specs.Calls.{owed, priced, lack_in}
 use Rattle.ledger.specs.Laws.{FairSource}
 use Rattle.ledger.specs.View.{Gas, Charges, view, entry}
 use Rattle.ledger.specs.declared.tables.Tables.{Tables}
@@ -32,15 +31,11 @@ record Bounds (t : Term) : Type 0 where
 
 one_within : (limit : ℕ) (xs : List ℤ) → length xs ≡ 1 → within limit xs ≡ true → nat_abs (get_or xs 0 (pos 0)) ≤ limit
 one_within limit [] e h = absurd (omega (arith, e))
-one_within limit (x ∷ xs) e h = leb-true (nat_abs x) limit (and_parts (leb (nat_abs x) limit) (within limit xs) h).0
+one_within limit (x ∷ xs) e h = grind (arith, nat_tests)
 
 highs_fit : (xs : List ℤ) → within 100000000000000 xs ≡ true → fit (line_highs xs) ≡ true
 highs_fit [] h = refl
-highs_fit (x ∷ xs) h =
-    let p = and_parts (leb (nat_abs x) 100000000000000) (within 100000000000000 xs) h in
-    let l : nat_abs x ≤ 100000000000000 = leb-true (nat_abs x) 100000000000000 p.0 in
-    let q : nat_abs x / 100000000 < 268435456 = omega arith in
-    and_from (ltb (nat_abs x / 100000000) 268435456) (fit (line_highs xs)) (lt-ltb _ _ q) (highs_fit xs p.1)
+highs_fit (x ∷ xs) h = grind (arith, nat_tests, highs_fit xs)
 
 bounded : (c : Contract) (g : Gas) (l : Charges) → Bounds (entry c g.figures l.figures)
 bounded c g l = record {
@@ -56,20 +51,6 @@ bounded c g l = record {
 record Fit (c : Call) (o : Outcome) : Type 0 where
   fits : answer_fits c o.answer ≡ true
 
-abbrev Small : List (Bool × Refusal) → Type 0
-Small [] = Unit {0}
-Small (r ∷ rs) = (ltb (lacking_day r.1) 268435456 ≡ true) × Small rs
-
-abbrev behind : List (Bool × Refusal) → List (Bool × Refusal)
-behind [] = []
-behind (r ∷ rs) = rs
-
-first_fits : (c : Call) (s : State) (rs : List (Bool × Refusal)) (o : Outcome) → Small rs → Fit c o
-    → Fit c (first_of s rs o)
-first_fits c s [] o small h = h
-first_fits c s (r ∷ rs) o small h =
-    cond_both r.0 _ _ (Fit c) (λ _. record { fits = small.0 }) (λ _. first_fits c s rs o small.1 h)
-
 lack_priced : (v n : ℕ) (r : Result ℕ Lack) → n ≤ 3401 → Fair n n r → ltb (lack_in (priced v r)).day 268435456 ≡ true
 lack_priced v n (Ok p) h fair = refl
 lack_priced v n (Err l) h fair = lt-ltb _ _ (omega (arith, fair.1, h))
@@ -82,42 +63,30 @@ module _ (t : Tables) (m : Meaning) (fair : FairSource m.overrun) where
       cond_both (leb x.mdv d) _ _ (λ (o : Result ℕ Lack). ltb (lack_in o).day 268435456 ≡ true) (λ _. refl)
       (λ _. lack_priced _ x.next _ b.ends (fair x.point x.next x.next b.starts (omega arith) (omega (arith, b.ends))))
 
+  day_fits : Fit Day (step m (view t) Day)
+  day_fits = record { fits = grind (arith, nat_tests, t.ends) }
+
+  open_fits : (pool point mdv first last : ℕ)
+      → Fit (Open pool point mdv first last) (step m (view t) (Open pool point mdv first last))
+  open_fits pool point mdv first last = record { fits = grind (arith, nat_tests, term_count t, t.few) }
+
   post_fits : (n d c : ℕ) → Fit (Post n d c) (step m (view t) (Post n d c))
   post_fits n d c =
       cond_both (missing (view t) n) _ _ (Fit (Post n d c)) (λ _. record { fits = refl }) (λ found.
       let b = term_holds t Bounds bounded n found in
-      first_fits (Post n d c) (view t) (behind (post_refusals m.overrun (view t) n d c))
-      (post_done m.overrun (view t) n d c)
-      (refl, (refl, (refl, (refl, (lack_small n d b, (refl, tt))))))
-      (record { fits = lt-ltb _ _ (omega (arith, b.ends)) }))
-
-  open_fits : (pool point mdv first last : ℕ)
-      → Fit (Open pool point mdv first last) (step m (view t) (Open pool point mdv first last))
-  open_fits pool point mdv first last =
-      first_fits (Open pool point mdv first last) (view t) (open_refusals (view t) pool point mdv first last)
-      (open_done (view t) pool point mdv first last)
-      (refl, (refl, (refl, tt)))
-      (record { fits = lt-ltb _ _ (omega (arith, term_count t, t.few)) })
+      let lack = lack_small n d b in
+      record { fits = grind (arith, nat_tests, found, b.ends, lack) })
 
   statement_fits : (n : ℕ) → Fit (Statement n) (step m (view t) (Statement n))
   statement_fits n =
       cond_both (missing (view t) n) _ _ (Fit (Statement n)) (λ _. record { fits = refl }) (λ found.
       let b = term_holds t Bounds bounded n found in
-      let high : n ≤ length (view t).terms =
-      ltb-false (length (view t).terms) n (or_parts (eqb n 0) (ltb (length (view t).terms) n) found).1 in
       record {
-        fits = and_from _ _
-            (and_from _ _ (lt-ltb n 268435456 (omega (arith, high, term_count t, t.few)))
-            (and_from _ _ (lt-ltb (term_at (view t) n).pool 268435456 (omega (arith, b.pool)))
-            (and_from _ _ (lt-ltb (term_at (view t) n).next 268435456 (omega (arith, b.ends)))
-            (and_from _ _ (lt-ltb (nat_abs (term_at (view t) n).balance) 268435456 (omega (arith, b.balance)))
-            b.lines))))
-            (eq-eqb _ _ b.five);
+        fits = grind (arith, nat_tests, found, term_count t, t.few, b.pool, b.ends, b.balance, b.lines, b.five);
       })
 
 pub answers_fit_words : AnswersFit
-answers_fit_words t m fair Day = (first_fits Day (view t) (day_refusals (view t)) (day_done (view t)) (refl, tt)
-    (record { fits = lt-ltb _ _ (omega (arith, t.ends)) })).fits
+answers_fit_words t m fair Day = (day_fits t m fair).fits
 answers_fit_words t m fair (Open pool point mdv first last) = (open_fits t m fair pool point mdv first last).fits
 answers_fit_words t m fair (Post n d c) = (post_fits t m fair n d c).fits
 answers_fit_words t m fair (Statement n) = (statement_fits t m fair n).fits

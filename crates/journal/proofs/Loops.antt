@@ -1,6 +1,6 @@
 -- A run so far: what is written, before what is still to come.
 use Rattle.std.proofs.Common.{◌≡◌, ℕ, ◌+◌, ◌-◌, ◌<◌, ◌≤◌, List, [], ◌++◌, length, take, drop}
-use Rattle.std.proofs.Common.{Some, None, Ok, Err, Option, sym, ap, ◌∙◌, subst, arith}
+use Rattle.std.proofs.Common.{Some, None, Ok, Err, Option, sym, refl, ap, ◌∙◌, arith}
 use Rattle.std.proofs.lemmas.List.{append_assoc, append-nil, length-append, length-take-le}
 use Rattle.std.proofs.lemmas.List.{length-drop, take-append-drop, take_at, drop_at, drop-drop, drop_all}
 use Rattle.std.proofs.lemmas.Bool.{cond-false, le-ltb}
@@ -11,8 +11,7 @@ use Rattle.ledger.specs.Book.{State}
 use Rattle.ledger.specs.Calls.{Meaning, Meets, step}
 use Rattle.words.specs.Reading.{read_call, Used}
 use Rattle.words.specs.Writing.{answer_words}
-use Rattle.journal.specs.Runs.{Ending, Runs, stopped, answering, run_from, run}
-use Rattle.journal.specs.declared.ran.Ran.{Ran}
+use Rattle.journal.specs.Runs.{Runs, answering, run_from, run}
 use Rattle.journal.specs.declared.stop.Stop.{Stop}
 use Rattle.journal.proofs.Steps.{run_wrong, run_full, run_more}
 
@@ -45,111 +44,76 @@ back answers a written h =
     ∙ drop_at (take written answers ++ a) (drop (written + length a) answers) (written + length a)
     (front_length answers a written h)
 
-module _ (m : Meaning) (words : List ℕ) (room : ℕ) (start : State) where
-  pub begins : (answers : List ℕ) → SoFar m words room start answers 0 0 start
-  begins answers = ap (λ r. run_from m words 0 0 r start) (omega arith)
+-- a run on its way: what it is so far, and the memory behind what is written as it was before
+pub record Going (m : Meaning) (words : List ℕ) (start : State) (before answers : List ℕ) (written place : ℕ)
+    (s : State) : Type 0 where
+  pub so_far : SoFar m words (length before) start answers written place s
+  pub behind : drop written answers ≡ drop written before
+  pub inside : written ≤ length answers
 
-  module _ (answers : List ℕ) (written place : ℕ) (s : State)
-      (inv : SoFar m words room start answers written place s) where
-    -- one call more
-    pub goes_on : (read : Call × ℕ) → place < length words → written ≤ length answers
-        → read_call (drop place words) ≡ Ok read → 1 ≤ read.1
-        → length (answer_words (step m s read.0).answer) ≤ room - written
-        → SoFar m words room start (with_answer answers written (answer_words (step m s read.0).answer))
-        (written + length (answer_words (step m s read.0).answer)) (place + read.1) (step m s read.0).after
-    goes_on read h k e some fits =
-        let a = answer_words (step m s read.0).answer in
-        let t = (step m s read.0).after in
-        let left : room - written - length a ≡ room - (written + length a) = omega arith in
-        inv
-        ∙ ap (answering (take written answers))
-        (run_more m (drop place words) place (room - written) s read (simp length-drop (omega arith)) e some fits)
-        ∙ ap (λ (front : List ℕ). record {
-          after =
-              (run_from m (drop read.1 (drop place words)) (place + read.1) 0 (room - written - length a) t).after;
-          words = front;
-          stop = (run_from m (drop read.1 (drop place words)) (place + read.1) 0
-              (room - written - length a) t).stop;
-        }) (sym (append_assoc (take written answers) a _))
-        ∙ ap (λ (f : List ℕ). answering f (run_from m (drop read.1 (drop place words)) (place + read.1) 0
-        (room - written - length a) t)) (sym (front answers a written k))
-        ∙ ap (λ (ws : List ℕ). answering (take (written + length a) (with_answer answers written a))
-        (run_from m ws (place + read.1) 0 (room - written - length a) t)) (drop-drop read.1 place words)
-        ∙ ap (λ (n : ℕ). answering (take (written + length a) (with_answer answers written a))
-        (run_from m (drop (place + read.1) words) (place + read.1) 0 n t)) left
+module _ (m : Meaning) (words : List ℕ) (start : State) (before answers : List ℕ) (written place : ℕ) (s : State)
+    (going : Going m words start before answers written place s) where
+  -- one call more
+  goes_on : (read : Call × ℕ) → place < length words → read_call (drop place words) ≡ Ok read → 1 ≤ read.1
+      → length (answer_words (step m s read.0).answer) ≤ length before - written
+      → SoFar m words (length before) start (with_answer answers written (answer_words (step m s read.0).answer))
+      (written + length (answer_words (step m s read.0).answer)) (place + read.1) (step m s read.0).after
+  goes_on read h e some fits =
+      let a = answer_words (step m s read.0).answer in
+      let left : length before - written - length a ≡ length before - (written + length a) = omega arith in
+      let more = run_more m (drop place words) place (length before - written) s read (simp length-drop (omega arith))
+      e some fits in
+      rw (going.so_far, more, front answers a written going.inside, append_assoc, drop-drop read.1 place words, left)
 
-    -- the same, by what reading, the call and the writing ensure
-    pub step_on : (call : Call) (after len : ℕ) (answer : Answer) (t : State) (encoded before out : List ℕ)
-        → place < length words → written ≤ length answers → drop written answers ≡ drop written before
-        → Used words place call after → Meets (step m s call) answer t → take len encoded ≡ answer_words answer
-        → len ≡ length (answer_words answer) → len ≤ room - written
-        → out ≡ take written answers ++ (take len encoded ++ drop (written + len) answers)
-        → SoFar m words room start out (written + len) after t
-        × (drop (written + len) out ≡ drop (written + len) before)
-    step_on call after len answer t encoded before out h k same u met e l fits o =
-        let a = answer_words (step m s call).answer in
-        let n : len ≡ length a = l ∙ ap (λ x. length (answer_words x)) met.answers in
-        let p : out ≡ with_answer answers written a =
-        o ∙ ap (λ ws. take written answers ++ (ws ++ drop (written + len) answers)) (e ∙ ap answer_words met.answers)
-        ∙ ap (λ x. take written answers ++ (a ++ drop (written + x) answers)) n in
-        let g = goes_on (call, u.used) h k u.read u.some (subst (λ x. x ≤ room - written) n fits) in (
-          subst (λ x. SoFar m words room start x (written + len) after t) (sym p)
-              (subst (λ x. SoFar m words room start (with_answer answers written a) (written + x) after t) (sym n)
-              (subst (λ x. SoFar m words room start (with_answer answers written a) (written + length a) x t)
-              (sym u.moved)
-              (subst (λ x. SoFar m words room start (with_answer answers written a) (written + length a)
-              (place + u.used) x) (sym met.leaves) g))),
-          subst (λ x. drop (written + x) out ≡ drop (written + x) before) (sym n)
-              (ap (drop (written + length a)) p
-              ∙ back answers a written k
-              ∙ sym (drop-drop (length a) written answers)
-              ∙ ap (drop (length a)) same
-              ∙ drop-drop (length a) written before),
-        )
+  -- the same, by what reading, the call and the writing ensure
+  pub step_on : (call : Call) (after len : ℕ) (answer : Answer) (t : State) (encoded out : List ℕ)
+      → place < length words → Used words place call after → Meets (step m s call) answer t
+      → take len encoded ≡ answer_words answer → len ≡ length (answer_words answer) → len ≤ length before - written
+      → out ≡ take written answers ++ (take len encoded ++ drop (written + len) answers)
+      → written + len ≤ length out → Going m words start before out (written + len) after t
+  step_on call after len answer t encoded out h u met e l fits o inside =
+      let a = answer_words (step m s call).answer in
+      let n : len ≡ length a = l ∙ ap (λ x. length (answer_words x)) met.answers in
+      let p : out ≡ with_answer answers written a = rw (← n, ← met.answers, ← e) o in
+      record {
+        so_far = rw (p, n, u.moved, met.leaves) (goes_on (call, u.used) h u.read u.some (rw n at fits));
+        behind = rw (p, n) (back answers a written going.inside
+            ∙ sym (drop-drop (length a) written answers)
+            ∙ ap (drop (length a)) going.behind
+            ∙ drop-drop (length a) written before);
+        inside = inside;
+      }
 
-    -- the run's end, by what is left of it
-    ends : (before : List ℕ) (stop : Option Stop) → written ≤ length answers
-        → drop written answers ≡ drop written before
-        → run_from m (drop place words) place 0 (room - written) s ≡ record { after = s; words = []; stop = stop }
-        → Runs (run_from m words 0 0 room start) (record { written = written; stop = stop }) before answers s
-    ends before stop k same e =
-        let whole = inv ∙ ap (answering (take written answers)) e in
-        record {
-          state = sym (ap (λ (x : Ending). x.after) whole);
-          count = sym (ap (λ (x : Ending). length x.words) whole ∙ ap length (append-nil (take written answers))
-              ∙ length-take-le written answers k);
-          memory = sym (ap (λ (x : Ending). x.words ++ drop written before) whole
-              ∙ ap (λ ws. ws ++ drop written before) (append-nil (take written answers))
-              ∙ ap (λ ws. take written answers ++ ws) (sym same) ∙ take-append-drop written answers);
-          stops = sym (ap (λ (x : Ending). x.stop) whole);
-        }
+  -- the run's end, by what is left of it: a journal of at most 8,192 words is read
+  module _ (short : length words ≤ 8192) where
+    ends : (stop : Option Stop) → run_from m (drop place words) place 0 (length before - written) s
+        ≡ record { after = s; words = []; stop = stop }
+        → Runs (run m words (length before) start) (record { written = written; stop = stop }) before answers s
+    ends stop e =
+        let read : run m words (length before) start ≡ run_from m words 0 0 (length before) start =
+        cond-false _ _ _ (le-ltb 8192 (length words) short) in
+        rw (read, going.so_far, e, append-nil) (record {
+          state = refl;
+          count = sym (length-take-le written answers going.inside);
+          memory = rw (← going.behind) (sym (take-append-drop written answers));
+          stops = refl;
+        })
 
-    pub ends_whole : (before : List ℕ) → written ≤ length answers → drop written answers ≡ drop written before
-        → length words ≤ place → Runs (run_from m words 0 0 room start)
-        (record { written = written; stop = None }) before answers s
-    ends_whole before k same h = ends before None k same
-        (ap (λ ws. run_from m ws place 0 (room - written) s) (drop_all place words h))
+    pub ends_whole : length words ≤ place
+        → Runs (run m words (length before) start) (record { written = written; stop = None }) before answers s
+    ends_whole h = ends None (rw (drop_all place words h))
 
-    pub ends_wrong : (before : List ℕ) (off at : ℕ) → place < length words → written ≤ length answers
-        → drop written answers ≡ drop written before → read_call (drop place words) ≡ Err off → at ≡ place + off
-        → Runs (run_from m words 0 0 room start)
+    pub ends_wrong : (off at : ℕ) → place < length words → read_call (drop place words) ≡ Err off → at ≡ place + off
+        → Runs (run m words (length before) start)
         (record { written = written; stop = Some (record { refusal = BadWord; place = at }) }) before answers s
-    ends_wrong before off at h k same e here =
-        ends before _ k same (run_wrong m (drop place words) place (room - written) s off
-        (simp length-drop (omega arith)) e ∙ ap (λ p. stopped s BadWord p) (sym here))
+    ends_wrong off at h e here =
+        ends _ (rw here (run_wrong m (drop place words) place (length before - written) s off
+        (simp length-drop (omega arith)) e))
 
-    pub ends_full : (before : List ℕ) (read : Call × ℕ) → place < length words → written ≤ length answers
-        → drop written answers ≡ drop written before → read_call (drop place words) ≡ Ok read
-        → room - written < length (answer_words (step m s read.0).answer)
-        → Runs (run_from m words 0 0 room start)
+    pub ends_full : (read : Call × ℕ) → place < length words → read_call (drop place words) ≡ Ok read
+        → length before - written < length (answer_words (step m s read.0).answer)
+        → Runs (run m words (length before) start)
         (record { written = written; stop = Some (record { refusal = NoRoom; place = place }) }) before answers s
-    ends_full before read h k same e full =
-        ends before _ k same (run_full m (drop place words) place (room - written) s read
+    ends_full read h e full =
+        ends _ (run_full m (drop place words) place (length before - written) s read
         (simp length-drop (omega arith)) e full)
-
--- a journal of at most 8,192 words is read
-pub reads : (m : Meaning) (words : List ℕ) (room : ℕ) (start s : State) (r : Ran) (before answers : List ℕ)
-    → length words ≤ 8192 → Runs (run_from m words 0 0 room start) r before answers s
-    → Runs (run m words room start) r before answers s
-reads m words room start s r before answers h x =
-    subst (λ e. Runs e r before answers s) (sym (cond-false _ _ _ (le-ltb 8192 (length words) h))) x

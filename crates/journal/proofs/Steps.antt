@@ -1,14 +1,14 @@
 -- One call of a run: passed over once it is read, stopped, or answered.
 use Rattle.std.proofs.Common.{◌≡◌, ℕ, zero, suc, ◌+◌, ◌-◌, ◌<◌, ◌≤◌, List, [], ◌∷◌}
 use Rattle.std.proofs.Common.{length, drop, Ok, Err, refl, ap, ◌∙◌, arith}
-use Rattle.std.proofs.lemmas.Bool.{lt-ltb, le-ltb, cond-true, cond-false}
+use Rattle.std.proofs.lemmas.Bool.{lt-ltb, le-ltb}
 use Rattle.calls.specs.declared.call.Call.{Call}
 use Rattle.calls.specs.declared.refusal.Refusal.TheVariants.{BadWord, NoRoom}
 use Rattle.ledger.specs.Book.{State}
 use Rattle.ledger.specs.Calls.{Meaning, step}
 use Rattle.words.specs.Reading.{read_call}
 use Rattle.words.specs.Writing.{answer_words}
-use Rattle.journal.specs.Runs.{stopped, answering, made, go, run_from}
+use Rattle.journal.specs.Runs.{stopped, answering, run_from}
 
 module _ (m : Meaning) where
   -- the words of a call are passed over
@@ -31,21 +31,14 @@ module _ (m : Meaning) where
   -- reading stops at a word
   pub run_wrong : (ws : List ℕ) (place room : ℕ) (s : State) (at : ℕ) → 0 < length ws → read_call ws ≡ Err at
       → run_from m ws place 0 room s ≡ stopped s BadWord (place + at)
-  run_wrong [] place room s at h e = absurd (omega (arith, h))
-  run_wrong (w ∷ ws) place room s at h e =
-      ap (λ r. go m place room s r (λ skip t left. run_from m ws (place + 1) skip left t)) e
-
-  run_read : (w : ℕ) (ws : List ℕ) (place room : ℕ) (s : State) (read : Call × ℕ) → read_call (w ∷ ws) ≡ Ok read
-      → run_from m (w ∷ ws) place 0 room s
-      ≡ made place room s (step m s read.0) (λ t left. run_from m ws (place + 1) (read.1 - 1) left t)
-  run_read w ws place room s read e =
-      ap (λ r. go m place room s r (λ skip t left. run_from m ws (place + 1) skip left t)) e
+  run_wrong [] place room s at h e = absurd (omega arith)
+  run_wrong (w ∷ ws) place room s at h e = rw e
 
   -- the call's answer does not fit
   pub run_full : (ws : List ℕ) (place room : ℕ) (s : State) (read : Call × ℕ) → 0 < length ws → read_call ws ≡ Ok read
       → room < length (answer_words (step m s read.0).answer) → run_from m ws place 0 room s ≡ stopped s NoRoom place
-  run_full [] place room s read h e f = absurd (omega (arith, h))
-  run_full (w ∷ ws) place room s read h e f = run_read w ws place room s read e ∙ cond-true _ _ _ (lt-ltb room _ f)
+  run_full [] place room s read h e f = absurd (omega arith)
+  run_full (w ∷ ws) place room s read h e f = rw (e, lt-ltb room _ f)
 
   -- the call is answered, and the rest goes on after its words
   pub run_more : (ws : List ℕ) (place room : ℕ) (s : State) (read : Call × ℕ) → 0 < length ws → read_call ws ≡ Ok read
@@ -53,8 +46,6 @@ module _ (m : Meaning) where
       → run_from m ws place 0 room s ≡ answering (answer_words (step m s read.0).answer)
       (run_from m (drop read.1 ws) (place + read.1) 0 (room - length (answer_words (step m s read.0).answer))
       (step m s read.0).after)
-  run_more [] place room s read h e some f = absurd (omega (arith, h))
+  run_more [] place room s read h e some f = absurd (omega arith)
   run_more (w ∷ ws) place room s read h e some f =
-      let a = answer_words (step m s read.0).answer in
-      run_read w ws place room s read e ∙ cond-false _ _ _ (le-ltb room _ f)
-      ∙ ap (answering a) (past_call w ws place read.1 (room - length a) (step m s read.0).after some)
+      rw (e, le-ltb room _ f, past_call w ws place read.1 _ (step m s read.0).after some)

@@ -5,6 +5,7 @@ use Rattle.std.proofs.Common.{refl, ap, ◌∙◌, le_of_suc-le-suc, not-suc-le-
 use native.Mathlib.Nat.{suc_inj}
 use Rattle.std.specs.List.{list_any}
 use Rattle.std.proofs.lemmas.List.{length-map, map_push}
+use Rattle.std.proofs.lemmas.Bool.Decides.{nat_tests}
 use Rattle.std.proofs.lemmas.Bool.{or_parts, eqb-false}
 use Rattle.std.proofs.lemmas.Bool.{ltb-false}
 use Rattle.amounts.specs.Rows.{sums}
@@ -15,52 +16,57 @@ use Rattle.ledger.specs.View.{Gas, Charges, entry, entries, view, clashes}
 use Rattle.ledger.specs.declared.term.Term.{Term as Contract}
 use Rattle.ledger.specs.declared.tables.Tables.{Tables}
 
-pub length_entries : (ts : List Contract) (gs ls : List (List ℤ)) → length gs ≡ length ts → length ls ≡ length ts
-    → length (entries ts gs ls) ≡ length ts
-length_entries [] gs ls g l = refl
-length_entries (t ∷ ts) [] ls g l = g
-length_entries (t ∷ ts) (x ∷ gs) [] g l = l
-length_entries (t ∷ ts) (x ∷ gs) (y ∷ ls) g l = ap suc (length_entries ts gs ls (suc_inj g) (suc_inj l))
+-- what holds of empty tables, and stays true with one row more in each, holds of tables of one length
+level_ind : (P : List Contract → List (List ℤ) → List (List ℤ) → Type 0) → P [] [] []
+    → ((c : Contract) (x y : List ℤ) (ts : List Contract) (gs ls : List (List ℤ)) → P ts gs ls
+    → P (c ∷ ts) (x ∷ gs) (y ∷ ls))
+    → (ts : List Contract) (gs ls : List (List ℤ)) → length gs ≡ length ts → length ls ≡ length ts → P ts gs ls
+level_ind P none more [] [] [] g l = none
+level_ind P none more [] [] (y ∷ ls) g l = absurd (omega arith)
+level_ind P none more [] (x ∷ gs) ls g l = absurd (omega arith)
+level_ind P none more (c ∷ ts) [] ls g l = absurd (omega arith)
+level_ind P none more (c ∷ ts) (x ∷ gs) [] g l = absurd (omega arith)
+level_ind P none more (c ∷ ts) (x ∷ gs) (y ∷ ls) g l =
+    more c x y ts gs ls (level_ind P none more ts gs ls (suc_inj g) (suc_inj l))
 
-pub some_entries : (pool first last : ℕ) (ts : List Contract) (gs ls : List (List ℤ)) → length gs ≡ length ts
-    → length ls ≡ length ts → list_any (shares pool first last) (entries ts gs ls)
-    ≡ list_any (clashes pool first last) ts
-some_entries pool first last [] gs ls g l = refl
-some_entries pool first last (t ∷ ts) [] ls g l = absurd (omega (arith, g))
-some_entries pool first last (t ∷ ts) (x ∷ gs) [] g l = absurd (omega (arith, l))
-some_entries pool first last (t ∷ ts) (x ∷ gs) (y ∷ ls) g l =
-    ap (λ b. clashes pool first last t || b) (some_entries pool first last ts gs ls (suc_inj g) (suc_inj l))
+module _ (ts : List Contract) (gs ls : List (List ℤ)) (g : length gs ≡ length ts) (l : length ls ≡ length ts) where
+  length_entries : length (entries ts gs ls) ≡ length ts
+  length_entries = level_ind (λ ts gs ls. length (entries ts gs ls) ≡ length ts) refl
+      (λ c x y ts gs ls same. ap suc same) ts gs ls g l
 
-pub entries_at : (ts : List Contract) (gs ls : List (List ℤ)) (i : ℕ) (d : Term) (t : Contract) → i < length ts
-    → length gs ≡ length ts → length ls ≡ length ts
-    → get_or (entries ts gs ls) i d ≡ entry (get_or ts i t) (get_or gs i []) (get_or ls i [])
-entries_at [] gs ls i d t h g l = absurd (not-suc-le-zero h)
-entries_at (c ∷ ts) [] ls i d t h g l = absurd (omega (arith, g))
-entries_at (c ∷ ts) (x ∷ gs) [] i d t h g l = absurd (omega (arith, l))
-entries_at (c ∷ ts) (x ∷ gs) (y ∷ ls) zero d t h g l = refl
-entries_at (c ∷ ts) (x ∷ gs) (y ∷ ls) (suc i) d t h g l =
-    entries_at ts gs ls i d t (le_of_suc-le-suc h) (suc_inj g) (suc_inj l)
+  some_entries : (pool first last : ℕ)
+      → list_any (shares pool first last) (entries ts gs ls) ≡ list_any (clashes pool first last) ts
+  some_entries pool first last =
+      level_ind (λ ts gs ls.
+      list_any (shares pool first last) (entries ts gs ls) ≡ list_any (clashes pool first last) ts)
+      refl (λ c x y ts gs ls same. ap (λ b. clashes pool first last c || b) same) ts gs ls g l
 
-pub entries_set : (ts : List Contract) (gs ls : List (List ℤ)) (i : ℕ) (t : Contract) (x y : List ℤ)
-    → entries (set ts i t) (set gs i x) (set ls i y) ≡ set (entries ts gs ls) i (entry t x y)
-entries_set [] gs ls i t x y = refl
-entries_set (c ∷ ts) [] ls zero t x y = refl
-entries_set (c ∷ ts) [] ls (suc i) t x y = refl
-entries_set (c ∷ ts) (a ∷ gs) [] zero t x y = refl
-entries_set (c ∷ ts) (a ∷ gs) [] (suc i) t x y = refl
-entries_set (c ∷ ts) (a ∷ gs) (b ∷ ls) zero t x y = refl
-entries_set (c ∷ ts) (a ∷ gs) (b ∷ ls) (suc i) t x y = ap (λ es. entry c a b ∷ es) (entries_set ts gs ls i t x y)
+  pub entries_at : (i : ℕ) (d : Term) (t : Contract) → i < length ts
+      → get_or (entries ts gs ls) i d ≡ entry (get_or ts i t) (get_or gs i []) (get_or ls i [])
+  entries_at i d t h =
+      level_ind (λ ts gs ls. (i : ℕ) → i < length ts
+      → get_or (entries ts gs ls) i d ≡ entry (get_or ts i t) (get_or gs i []) (get_or ls i []))
+      (λ i h. absurd (omega arith))
+      (λ c x y ts gs ls same i. elim i as (λ i. i < length (c ∷ ts) → get_or (entries (c ∷ ts) (x ∷ gs) (y ∷ ls)) i d
+      ≡ entry (get_or (c ∷ ts) i t) (get_or (x ∷ gs) i []) (get_or (y ∷ ls) i []))
+      [ zero ↦ λ h. refl | suc i ↦ λ h. same i (omega arith) ]) ts gs ls g l i h
 
-pub entries_push : (ts : List Contract) (gs ls : List (List ℤ)) (t : Contract) (x y : List ℤ) → length gs ≡ length ts
-    → length ls ≡ length ts → entries (ts ++ t ∷ []) (gs ++ x ∷ []) (ls ++ y ∷ [])
-    ≡ entries ts gs ls ++ entry t x y ∷ []
-entries_push [] [] [] t x y g l = refl
-entries_push [] (a ∷ gs) ls t x y g l = absurd (omega (arith, g))
-entries_push [] [] (b ∷ ls) t x y g l = absurd (omega (arith, l))
-entries_push (c ∷ ts) [] ls t x y g l = absurd (omega (arith, g))
-entries_push (c ∷ ts) (a ∷ gs) [] t x y g l = absurd (omega (arith, l))
-entries_push (c ∷ ts) (a ∷ gs) (b ∷ ls) t x y g l =
-    ap (λ es. entry c a b ∷ es) (entries_push ts gs ls t x y (suc_inj g) (suc_inj l))
+  pub entries_set : (i : ℕ) (t : Contract) (x y : List ℤ)
+      → entries (set ts i t) (set gs i x) (set ls i y) ≡ set (entries ts gs ls) i (entry t x y)
+  entries_set i t x y =
+      level_ind (λ ts gs ls. (i : ℕ)
+      → entries (set ts i t) (set gs i x) (set ls i y) ≡ set (entries ts gs ls) i (entry t x y))
+      (λ i. refl)
+      (λ c a b ts gs ls same i. elim i as (λ i. entries (set (c ∷ ts) i t) (set (a ∷ gs) i x) (set (b ∷ ls) i y)
+      ≡ set (entries (c ∷ ts) (a ∷ gs) (b ∷ ls)) i (entry t x y))
+      [ zero ↦ refl | suc i ↦ ap (λ es. entry c a b ∷ es) (same i) ]) ts gs ls g l i
+
+  pub entries_push : (t : Contract) (x y : List ℤ)
+      → entries (ts ++ t ∷ []) (gs ++ x ∷ []) (ls ++ y ∷ []) ≡ entries ts gs ls ++ entry t x y ∷ []
+  entries_push t x y =
+      level_ind (λ ts gs ls.
+      entries (ts ++ t ∷ []) (gs ++ x ∷ []) (ls ++ y ∷ []) ≡ entries ts gs ls ++ entry t x y ∷ [])
+      refl (λ c a b ts gs ls same. ap (λ es. entry c a b ∷ es) same) ts gs ls g l
 
 -- of the tables
 
@@ -71,11 +77,14 @@ pub lines_level : (t : Tables) → length (rows_of 5 100000000000000 (vec_items 
 lines_level t = simp length-map (omega (arith, t.lines.ok.0, t.terms.ok.0, t.beside))
 
 pub term_count : (t : Tables) → length (view t).terms ≡ vec_len t.terms
-term_count t = omega (arith, length_entries (vec_items t.terms) _ _ (gas_level t) (lines_level t), t.terms.ok.0)
+term_count t = length_entries _ _ _ (gas_level t) (lines_level t) ∙ sym t.terms.ok.0
 
 pub view_some : (t : Tables) (pool first last : ℕ)
     → list_any (shares pool first last) (view t).terms ≡ list_any (clashes pool first last) (vec_items t.terms)
-view_some t pool first last = some_entries pool first last (vec_items t.terms) _ _ (gas_level t) (lines_level t)
+view_some t = some_entries _ _ _ (gas_level t) (lines_level t)
+
+-- what the tables tell of the book's terms, for `grind`
+pub ruleset told = (nat_tests, term_count, view_some)
 
 -- one row more in each table
 pub view_push : (t : Tables) (ts : List Contract) (gs : List Gas) (ls : List Charges) (c : Contract) (g : Gas)
@@ -87,7 +96,7 @@ view_push t ts gs ls c g l x y z =
       map_push (λ (r : Gas). r.figures) (vec_items t.gas) g,
       map_push (λ (r : Charges). r.figures) (vec_items t.lines) l,
     )
-    (entries_push (vec_items t.terms) _ _ c g.figures l.figures (gas_level t) (lines_level t)))
+    (entries_push _ _ _ (gas_level t) (lines_level t) c g.figures l.figures))
 
 pub read_at : (t : Tables) (n i : ℕ) (c : Contract) → i + 1 ≡ n → i < vec_len t.terms
     → c ≡ get_or (vec_items t.terms) i c
@@ -96,7 +105,7 @@ pub read_at : (t : Tables) (n i : ℕ) (c : Contract) → i + 1 ≡ n → i < ve
 read_at t n i c e h r =
     let k : n - 1 ≡ i = omega arith in
     ap (λ j. get_or (view t).terms j no_term) k
-    ∙ entries_at (vec_items t.terms) _ _ i no_term c (omega (arith, t.terms.ok.0)) (gas_level t) (lines_level t)
+    ∙ entries_at _ _ _ (gas_level t) (lines_level t) i no_term c (omega (arith, t.terms.ok.0))
     ∙ ap (λ x. entry x (get_or (rows_of 1 200000000 (vec_items t.gas)) i [])
     (get_or (rows_of 5 100000000000000 (vec_items t.lines)) i [])) (sym r)
 
@@ -121,24 +130,6 @@ gas_grown t i d h =
     ap (λ xs. sums xs (d ∷ []))
     (sym (one_figure row (row_long 1 200000000 (vec_items t.gas) i (omega (arith, t.gas.ok.0, t.level)))))
 
--- a term that is there has five lines
-entries_lines : (ts : List Contract) (gs ls : List (List ℤ)) (i : ℕ) (d : Term) → i < length ts
-    → length gs ≡ length ts → length ls ≡ length ts → (get_or (entries ts gs ls) i d).lines ≡ get_or ls i []
-entries_lines [] gs ls i d h g l = absurd (not-suc-le-zero h)
-entries_lines (c ∷ ts) [] ls i d h g l = absurd (omega (arith, g))
-entries_lines (c ∷ ts) (x ∷ gs) [] i d h g l = absurd (omega (arith, l))
-entries_lines (c ∷ ts) (x ∷ gs) (y ∷ ls) zero d h g l = refl
-entries_lines (c ∷ ts) (x ∷ gs) (y ∷ ls) (suc i) d h g l =
-    entries_lines ts gs ls i d (le_of_suc-le-suc h) (suc_inj g) (suc_inj l)
-
-pub lines_five : (t : Tables) (n i : ℕ) → i + 1 ≡ n → i < vec_len t.terms → length (term_at (view t) n).lines ≡ 5
-lines_five t n i e h =
-    let k : n - 1 ≡ i = omega arith in
-    ap (λ j. length (get_or (view t).terms j no_term).lines) k
-    ∙ ap length (entries_lines (vec_items t.terms) _ _ i no_term (omega (arith, t.terms.ok.0)) (gas_level t)
-    (lines_level t))
-    ∙ row_long 5 100000000000000 (vec_items t.lines) i (omega (arith, t.lines.ok.0, t.beside))
-
 -- what holds of every contract with its two rows holds of every term of the book
 entries_all : (P : Term → Type 0) → ((c : Contract) (g : Gas) (l : Charges) → P (entry c g.figures l.figures))
     → (ts : List Contract) (gs : List Gas) (ls : List Charges) (i : ℕ) (d : Term) → i < length ts
@@ -161,3 +152,7 @@ term_holds t P p n h =
     let inside : n - 1 < length (vec_items t.terms) = omega (arith, low, high, term_count t, t.terms.ok.0) in
     entries_all P p (vec_items t.terms) (vec_items t.gas) (vec_items t.lines) (n - 1) no_term inside
     (omega (arith, t.gas.ok.0, t.terms.ok.0, t.level)) (omega (arith, t.lines.ok.0, t.terms.ok.0, t.beside))
+
+-- a term that is there has five lines
+pub lines_five : (t : Tables) (n : ℕ) → missing (view t) n ≡ false → length (term_at (view t) n).lines ≡ 5
+lines_five t = term_holds t (λ v. length v.lines ≡ 5) (λ c g l. l.long)

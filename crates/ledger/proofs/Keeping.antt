@@ -1,8 +1,8 @@
 -- A refused call changes nothing, whatever it was and whoever refused it.
-use Rattle.std.proofs.Common.{◌≡◌, ℕ, Bool, List, [], ◌∷◌, sym, refl, ◌∙◌, arith}
+use Rattle.std.proofs.Common.{◌≡◌, Bool, List, [], ◌∷◌, sym, refl, ◌∙◌}
 use Rattle.std.proofs.lemmas.Bool.{cond_both}
 use Rattle.calls.specs.declared.call.Answer.{Answer}
-use Rattle.calls.specs.declared.call.Answer.TheVariants.{Done, Refused}
+use Rattle.calls.specs.declared.call.Answer.TheVariants.{Refused}
 use Rattle.calls.specs.declared.call.Call.{Call}
 use Rattle.calls.specs.declared.call.Call.TheVariants.{Day, Open, Post, Statement}
 use Rattle.calls.specs.declared.refusal.Refusal.{Refusal}
@@ -22,19 +22,14 @@ unfolding Kept
 kept_by s [] o never = λ r e. absurd (never r e)
 kept_by s (x ∷ rs) o never = cond_both x.0 _ _ (Kept s) (λ _. λ r e. refl) (λ _. kept_by s rs o never)
 
-done_never : (n : ℕ) (r : Refusal) → Done n ≡ Refused r → ⊥
-done_never n r e = let z : ◌≡◌ {A = ℕ} 0 1 = cc in omega arith
-
 step_keeps : (m : Meaning) (s : State) (c : Call) → Kept s (step m s c)
-step_keeps m s Day = kept_by s (day_refusals s) (day_done s) (λ r e. done_never _ r e)
+step_keeps m s Day = kept_by s (day_refusals s) (day_done s) (λ r e. cc)
 step_keeps m s (Open pool point mdv first last) =
-    kept_by s (open_refusals s pool point mdv first last) (open_done s pool point mdv first last)
-    (λ r e. done_never _ r e)
+    kept_by s (open_refusals s pool point mdv first last) (open_done s pool point mdv first last) (λ r e. cc)
 step_keeps m s (Post term delivered consumed) =
     kept_by s (post_refusals m.overrun s term delivered consumed) (post_done m.overrun s term delivered consumed)
-    (λ r e. done_never _ r e)
-step_keeps m s (Statement term) = kept_by s (statement_refusals s term) (statement_done s term)
-    (λ r e. let z : ◌≡◌ {A = ℕ} 0 1 = cc in omega arith)
+    (λ r e. cc)
+step_keeps m s (Statement term) = kept_by s (statement_refusals s term) (statement_done s term) (λ r e. cc)
 
 -- what meets the book's step keeps the state where it is refused
 pub meets_keeps : (m : Meaning) (s t : State) (c : Call) (a : Answer) → Meets (step m s c) a t → Keeps s a t

@@ -2,4 +2,3 @@ pub mod Entries
 pub mod Keeping
 pub mod Orders
 pub mod Posts
-pub mod States

@@ -1,5 +1,5 @@
 -- Refusals in their order: one that holds is the answer, one that does not is passed over.
-use Rattle.std.proofs.Common.{◌≡◌, Bool, true, false, cond, sym, refl, ◌∙◌, subst}
+use Rattle.std.proofs.Common.{◌≡◌, Bool, true, false, cond, refl}
 use Rattle.ledger.specs.Book.{State}
 use Rattle.ledger.specs.Calls.{Outcome, Meets}
 use Rattle.calls.specs.declared.call.Answer.{Answer}
@@ -8,13 +8,7 @@ use Rattle.calls.specs.declared.refusal.Refusal.{Refusal}
 
 pub refuses : (b : Bool) (r : Refusal) (s : State) (o : Outcome) → b ≡ true
     → Meets (cond b (record { answer = Refused r; after = s }) o) (Refused r) s
-refuses true r s o e = record { answers = refl; leaves = refl }
-refuses false r s o e = subst (λ b. Meets (cond b (record { answer = Refused r; after = s }) o) (Refused r) s) (sym e)
-    (record { answers = refl; leaves = refl })
+refuses b r s o e = rw e (record { answers = refl; leaves = refl })
 
 pub passes : (b : Bool) (x o : Outcome) (a : Answer) (s : State) → b ≡ false → Meets o a s → Meets (cond b x o) a s
-passes b x o a s e m = subst (λ v. Meets (cond v x o) a s) (sym e) m
-
--- the same at an equal state
-pub meets_at : (o : Outcome) (a : Answer) (s t : State) → t ≡ s → Meets o a s → Meets o a t
-meets_at o a s t e m = record { answers = m.answers; leaves = e ∙ m.leaves }
+passes b x o a s e m = rw e m

@@ -1,17 +1,32 @@
 -- What a posting's plan hands on: the tests that are passed, and the part of the book's call that is left.
-use Rattle.std.specs.Prelude.{◌≡◌, ℕ, ◌<◌, ◌≤◌, true, not, List, [], ◌∷◌, ℤ, pos, ◌+ℤ◌}
+use Rattle.std.specs.Prelude.{◌≡◌, ℕ, ◌+◌, ◌<◌, ◌≤◌, true, false, not, List, [], ◌∷◌, ℤ, pos, ◌+ℤ◌}
 use Rattle.std.specs.Prelude.{is_err, vec_items, vec_len, Result, slice_index_or, slice_set}
 use Rattle.amounts.specs.Rows.{within, sums}
 use Rattle.amounts.specs.Tables.{rows_of, grown}
 use Rattle.prices.specs.Quotes.{Quote}
 use Rattle.prices.specs.declared.source.Lack.{Lack}
-use Rattle.ledger.specs.Book.{Term, with_terms}
+use Rattle.ledger.specs.Book.{Term, with_terms, missing, term_at}
 use Rattle.ledger.specs.Calls.{Outcome, first_of, overrun_owed, overrun_line, micros, lack_in, posted}
 use Rattle.ledger.specs.View.{view, entry}
 use Rattle.calls.specs.declared.call.Answer.TheVariants.{Done}
 use Rattle.ledger.specs.declared.posting.Posting.{Posting}
 use Rattle.calls.specs.declared.refusal.Refusal.TheVariants.{ChargeLimit, Lacking}
 use Rattle.ledger.specs.declared.tables.Tables.{Tables}
+use Rattle.ledger.specs.declared.term.Term.{Term as Contract}
+
+abbrev pub gas_row : Tables → ℕ → List ℤ
+gas_row t i = slice_index_or (rows_of 1 200000000 (vec_items t.gas)) i []
+
+abbrev pub lines_row : Tables → ℕ → List ℤ
+lines_row t i = slice_index_or (rows_of 5 100000000000000 (vec_items t.lines)) i []
+
+-- The number is that of the term at this place of the tables, which is this one.
+pub record Found (t : Tables) (n i : ℕ) (c : Contract) : Type 0 where
+  pub number : i + 1 ≡ n
+  pub inside : i < vec_len t.terms
+  pub row : c ≡ slice_index_or (vec_items t.terms) i c
+  pub there : missing (view t) n ≡ false
+  pub read : term_at (view t) n ≡ entry c (gas_row t i) (lines_row t i)
 
 -- The posting is of a term that has the day unposted, and its gas stays within the limit.
 pub record Ready (t : Tables) (p : Posting) : Type 0 where
@@ -19,12 +34,6 @@ pub record Ready (t : Tables) (p : Posting) : Type 0 where
   pub row : p.term ≡ slice_index_or (vec_items t.terms) p.at p.term
   pub unposted : p.term.next ≤ p.term.last
   pub fits : within 200000000 (grown (rows_of 1 200000000 (vec_items t.gas)) p.at (p.net ∷ [])) ≡ true
-
-abbrev pub gas_row : Tables → ℕ → List ℤ
-gas_row t i = slice_index_or (rows_of 1 200000000 (vec_items t.gas)) i []
-
-abbrev pub lines_row : Tables → ℕ → List ℤ
-lines_row t i = slice_index_or (rows_of 5 100000000000000 (vec_items t.lines)) i []
 
 -- what is owed for the day
 abbrev pub due : Quote → Posting → Result ℕ Lack

@@ -58,6 +58,7 @@ fn overlaps(terms: &[Term], pool: u32, first: u32, last: u32) -> bool
 
 impl Tables {
     // Opens a term and answers its number.
+    #[tactic(auto, using(crate::proofs::Entries::told))]
     pub(crate) fn open(
         &mut self,
         pool: u32,
@@ -81,6 +82,7 @@ impl Tables {
     }
 
     // Adds a term with no gas and nothing owed, and answers its number.
+    #[tactic(auto, using(crate::proofs::Entries::told))]
     fn add(&mut self, term: Term) -> u32
         requires { vec_len self.old.terms < 64 }
         ensures value { result ≡ length (view self.old).terms + 1 }

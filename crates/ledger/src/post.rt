@@ -6,7 +6,7 @@ ghost use Rattle.amounts.specs.Tables.{grown, rows_of};
 ghost use Rattle.prices.specs.Quotes.{Quote};
 ghost use Rattle.ledger.specs.Book.{missing};
 ghost use Rattle.ledger.specs.Calls.{Meets, post_call, posted, answered, overrun_line};
-ghost use Rattle.ledger.specs.Plans.{Ready, pricing, charging};
+ghost use Rattle.ledger.specs.Plans.{Found, Ready, pricing, charging};
 ghost use Rattle.ledger.specs.View.{view, entry};
 ghost use Rattle.calls.specs.declared.call.Answer.{Answer};
 ghost use Rattle.calls.specs.declared.refusal.Refusal.TheVariants.{NoTerm, GasLimit};
@@ -34,6 +34,7 @@ fn overrun(owed: u64) -> [i64; 5]
 
 impl Tables {
     // A term's place in the tables.
+    #[tactic(auto, using(crate::proofs::Entries::told))]
     pub fn place(&self, term: u32) -> Result<usize, Refusal>
         ensures { MatchResult result
             (λ i. (i + 1 ≡ term) × (i < vec_len self.now.terms) × (missing (view self.now) term ≡ false))
@@ -43,6 +44,16 @@ impl Tables {
             Some(at) if at < self.terms.len() => Ok(at),
             _ => Err(Refusal::NoTerm),
         }
+    }
+
+    // A term and its place in the tables.
+    pub(crate) fn row(&self, term: u32) -> Result<(usize, Term), Refusal>
+        ensures { MatchResult result
+            (λ r. Found self.now term r.0 r.1)
+            (λ e. (e ≡ NoTerm) × (missing (view self.now) term ≡ true)) }
+    {
+        let at = self.place(term)?;
+        Ok((at, self.terms[at]))
     }
 
     // Whether a term's gas may grow by this much.
@@ -70,8 +81,7 @@ impl Tables {
             (λ e. (q : Quote)
             → Meets (post_call q (view self.now) term delivered consumed) (Answer.Refused e) (view self.now)) }
     {
-        let at = self.place(term)?;
-        let row = self.terms[at];
+        let (at, row) = self.row(term)?;
         if row.next > row.last {
             return Err(Refusal::WrongStatus);
         }

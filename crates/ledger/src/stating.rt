@@ -35,8 +35,7 @@ impl Tables {
     pub(crate) fn state(&self, term: u32) -> Result<Stated, Refusal>
         ensures { Meets (statement_call (view self.now) term) (stated result) (view self.now) }
     {
-        let at = self.place(term)?;
-        let row = self.terms[at];
+        let (at, row) = self.row(term)?;
         Ok(Stated {
             term,
             pool: row.pool,

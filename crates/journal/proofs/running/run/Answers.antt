@@ -1,26 +1,20 @@
-use Rattle.std.proofs.Common.{◌≡◌, ◌-◌, ◌<◌, ◌≤◌, length, drop, sym, ap, ◌∙◌, subst, arith}
+use Rattle.std.proofs.Common.{◌≡◌, ◌-◌, ◌<◌, ◌≤◌, length, drop, sym, ap, ◌∙◌, arith}
 use Rattle.std.proofs.lemmas.List.{length-drop}
 use Rattle.std.proofs.lemmas.Bool.{leb-false, leb-true}
-use Rattle.ledger.specs.Calls.{Meets, step}
-use Rattle.ledger.specs.View.{view}
 use Rattle.words.specs.Writing.{answer_words}
-use Rattle.words.specs.Reading.{Used, Stopped}
 use Rattle.journal.proofs.Near.{stop_near}
-use Rattle.journal.proofs.Loops.{step_on, ends_whole, ends_wrong, ends_full, reads}
+use Rattle.journal.proofs.Loops.{step_on, ends_whole, ends_wrong, ends_full}
 use Rattle.journal.proofs.running.run.Goals as goal
 
 pub returns-in-Err : goal.returns-in-Err
 returns-in-Err g c =
-    let m = g.Z.RateZone.means c.args.ledger.now.zone in
     let words = c.args.words.now in
     let inv = c.calls.invariant in
     let place = c.calls.reader.place in
-    let h : place < length words = omega (arith, leb-false _ _ (sym c.calls-test.ensures), ap length inv.4) in
-    let stop : Stopped words place c.in-Err.place =
-    subst (λ ws. Stopped ws place c.in-Err.place) inv.4 c.in-Err.ensures.read.0 in
+    let h : place < length words = omega (arith, leb-false _ _ (sym c.calls-test.ensures), ap length inv.2) in
+    let stop = rw inv.2 at c.in-Err.ensures.read.0 in
     rw c.stopped-in-Err.ensures (record {
-      ran = reads m words _ _ _ _ _ _ c.if-words-gt8192.false
-          (ends_wrong m words _ _ _ _ place _ inv.0 _ stop.off _ h inv.2 inv.1 stop.read stop.here);
+      ran = ends_wrong _ words _ _ _ _ place _ inv.0 c.if-words-gt8192.false stop.off _ h stop.read stop.here;
       near = omega (
         arith,
         stop.here,
@@ -28,7 +22,7 @@ returns-in-Err g c =
         length-drop place words,
         c.if-words-gt8192.false,
       );
-      zone = inv.3;
+      zone = inv.1;
     })
 
 pub returns-then-answers-written : goal.returns-then-answers-written
@@ -37,17 +31,13 @@ returns-then-answers-written g c =
     let words = c.args.words.now in
     let inv = c.calls.invariant in
     let place = c.calls.reader.place in
-    let h : place < length words = omega (arith, leb-false _ _ (sym c.calls-test.ensures), ap length inv.4) in
-    let used : Used words place c.in-Ok.call c.call.new.self.place =
-    subst (λ ws. Used ws place c.in-Ok.call c.call.new.self.place) inv.4 c.in-Ok.ensures.read in
-    let full : length c.args.answers.now - c.calls.written
-    < length (answer_words (step m (view c.calls.ledger.tables) c.in-Ok.call).answer) =
-    omega (arith, c.answer_len.ensures m, c.calls.auto.answers) in
+    let h : place < length words = omega (arith, leb-false _ _ (sym c.calls-test.ensures), ap length inv.2) in
+    let used = rw inv.2 at c.in-Ok.ensures.read in
     rw c.stopped-then-answers-written.ensures (record {
-      ran = reads m words _ _ _ _ _ _ c.if-words-gt8192.false
-          (ends_full m words _ _ _ _ place _ inv.0 _ (c.in-Ok.call, used.used) h inv.2 inv.1 used.read full);
+      ran = ends_full m words _ _ _ _ place _ inv.0 c.if-words-gt8192.false (c.in-Ok.call, used.used) h used.read
+          (omega (arith, c.answer_len.ensures m, c.calls.auto.answers));
       near = omega (arith, c.if-words-gt8192.false);
-      zone = inv.3;
+      zone = inv.1;
     })
 
 pub calls-preserved : goal.calls-preserved
@@ -56,40 +46,27 @@ calls-preserved g c =
     let words = c.args.words.now in
     let inv = c.calls.invariant in
     let place = c.calls.reader.place in
-    let s = view c.calls.ledger.tables in
-    let h : place < length words = omega (arith, leb-false _ _ (sym c.calls-test.ensures), ap length inv.4) in
-    let used : Used words place c.in-Ok.call c.call.new.self.place =
-    subst (λ ws. Used ws place c.in-Ok.call c.call.new.self.place) inv.4 c.in-Ok.ensures.read in
-    let met : Meets (step m s c.in-Ok.call) c.apply.result (view c.apply.new.self.tables) =
-    subst (λ z. Meets (step (g.Z.RateZone.means z) s c.in-Ok.call) c.apply.result (view c.apply.new.self.tables)) inv.3
-    c.apply.ensures.call in
-    let len = c.encode-answer.result.len in
-    let n : len ≡ c.answer_len.result = c.encode-answer.ensures.len ∙ ap (λ x. length (answer_words x)) met.answers
-    ∙ sym (c.answer_len.ensures m) in
-    let fits : len ≤ length c.args.answers.now - c.calls.written =
-    omega (arith, n, c.if-answers-written.false, c.calls.auto.answers) in
-    let on = step_on m words (length c.args.answers.now)
-    (view c.args.ledger.now.tables) c.calls.answers c.calls.written place s inv.0 c.in-Ok.call
-    c.call.new.self.place len c.apply.result
-    (view c.apply.new.self.tables) c.encode-answer.result.words c.args.answers.now c.put.new.answers h inv.2 inv.1
-    used met c.encode-answer.ensures.words c.encode-answer.ensures.len fits c.put.ensures in (
-      on.0,
-      on.1,
-      omega (arith, n, c.if-answers-written.false, c.calls.auto.answers, c.put.auto.answers, inv.2),
-      c.apply.ensures.zone ∙ inv.3,
-      c.call.ensures.same ∙ inv.4,
+    let h : place < length words = omega (arith, leb-false _ _ (sym c.calls-test.ensures), ap length inv.2) in
+    let used = rw inv.2 at c.in-Ok.ensures.read in
+    let met = rw inv.1 at c.apply.ensures.call in
+    let encoded = c.encode-answer.ensures in
+    let n : c.encode-answer.result.len ≡ c.answer_len.result =
+    encoded.len ∙ ap (λ x. length (answer_words x)) met.answers ∙ sym (c.answer_len.ensures m) in
+    let fits : c.encode-answer.result.len ≤ length c.args.answers.now - c.calls.written =
+    omega (arith, n, c.if-answers-written.false, c.calls.auto.answers) in (
+      step_on m words _ _ _ _ place _ inv.0 c.in-Ok.call _ _ _ _ _ _ h used met encoded.words encoded.len fits
+          c.put.ensures (omega (arith, fits, c.calls.auto.answers, c.put.auto.answers, inv.0.inside)),
+      c.apply.ensures.zone ∙ inv.1,
+      c.call.ensures.same ∙ inv.2,
     )
 
 pub returns : goal.returns
 returns g c =
-    let m = g.Z.RateZone.means c.args.ledger.now.zone in
-    let words = c.args.words.now in
     let inv = c.calls.invariant in
-    let place = c.calls.reader.place in
-    let h : length words ≤ place = omega (arith, leb-true _ _ (sym c.calls-test.ensures), ap length inv.4) in
+    let h : length c.args.words.now ≤ c.calls.reader.place =
+    omega (arith, leb-true _ _ (sym c.calls-test.ensures), ap length inv.2) in
     record {
-      ran = reads m words _ _ _ _ _ _ c.if-words-gt8192.false
-          (ends_whole m words _ _ _ _ place _ inv.0 _ inv.2 inv.1 h);
+      ran = ends_whole _ c.args.words.now _ _ _ _ _ _ inv.0 c.if-words-gt8192.false h;
       near = tt;
-      zone = inv.3;
+      zone = inv.1;
     }

@@ -1,14 +1,12 @@
-use Rattle.std.proofs.Common.{◌≡◌, ◌-◌, ◌≤◌, length, drop}
+use Rattle.std.proofs.Common.{◌≡◌, ◌-◌, length}
 use Rattle.ledger.specs.View.{view}
-use Rattle.journal.proofs.Loops.{SoFar}
+use Rattle.journal.proofs.Loops.{Going}
 use Rattle.journal.proofs.running.run.Given as goal
 
 abbrev pub invariant-calls : goal.invariant-calls
 invariant-calls g l =
-    SoFar (g.Z.RateZone.means l.initial.ledger.zone) l.words (length l.initial.answers)
-    (view l.initial.ledger.tables) l.answers l.written l.reader.place (view l.ledger.tables)
-    × (drop l.written l.answers ≡ drop l.written l.initial.answers)
-    × (l.written ≤ length l.answers)
+    Going (g.Z.RateZone.means l.initial.ledger.zone) l.words (view l.initial.ledger.tables) l.initial.answers l.answers
+    l.written l.reader.place (view l.ledger.tables)
     × (l.ledger.zone ≡ l.initial.ledger.zone)
     × (l.reader.words.now ≡ l.words)
 
