@@ -7,7 +7,7 @@ use crate::point::Point;
 use crate::span::Span;
 
 // A price that a source lacks: the day it is lacking for.
-#[derive(Clone, Copy, Debug)]
+#[derive(Clone, Copy, Debug, PartialEq, Eq)]
 pub struct Lack {
     pub day: u32,
 }
