@@ -2,7 +2,7 @@ use Rattle.std.proofs.Common.{◌≡◌, ◌-◌, ◌≤◌, length, drop, Some,
 use Rattle.std.proofs.lemmas.List.{length-drop}
 use Rattle.words.specs.Answers.{differs, answer_in}
 use Rattle.words.specs.Writing.{answer_words}
-use Rattle.words.proofs.Differences.{differs_within, replied, unreplied}
+use Rattle.words.proofs.Differences.{differs_within, replied}
 use Rattle.words.proofs.reader.Reader.answer.Goals as goal
 
 pub overflow_add-result : goal.overflow_add-result

@@ -1,7 +1,7 @@
 use Rattle.std.proofs.Common.{◌≡◌, ◌+◌, Some, Ok, length, drop, sym, refl, ap, ◌∙◌, subst, arith}
 use Rattle.std.proofs.lemmas.Option.{MatchOption-at_some}
 use Rattle.std.proofs.lemmas.Result.{err_from_is_err_and}
-use Rattle.words.specs.Reading.{Used, Missed, read_figures, call_of}
+use Rattle.words.specs.Reading.{Missed, read_figures, call_of}
 use Rattle.words.specs.Shapes.{shape_of}
 use Rattle.words.proofs.Readings.{stopped_figure, used_all}
 use Rattle.words.proofs.reader.Reader.call.Goals as goal
