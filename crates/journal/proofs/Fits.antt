@@ -10,6 +10,7 @@ use Rattle.calls.specs.declared.refusal.Refusal.{Refusal}
 use Rattle.ledger.specs.Book.{State, Term, missing, term_at}
 use Rattle.ledger.specs.Calls.{Outcome, Meaning, first_of, step, day_refusals, day_done}
 use Rattle.ledger.specs.Calls.{open_refusals, open_done, post_refusals, post_done, owed, priced, lack_in}
+use Rattle.ledger.specs.Laws.{FairSource}
 use Rattle.ledger.specs.View.{Gas, Charges, view, entry}
 use Rattle.ledger.specs.declared.tables.Tables.{Tables}
 use Rattle.ledger.specs.declared.term.Term.{Term as Contract}
@@ -18,7 +19,7 @@ use Rattle.prices.specs.Quotes.{Fair}
 use Rattle.prices.specs.declared.source.Lack.{Lack}
 use Rattle.words.specs.Answers.{answer_fits, line_highs}
 use Rattle.words.specs.Writing.{fit}
-use Rattle.journal.specs.Laws.{FairSource, AnswersFit}
+use Rattle.journal.specs.Laws.{AnswersFit}
 
 -- the ranges of a term of the book
 record Bounds (t : Term) : Type 0 where

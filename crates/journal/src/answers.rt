@@ -36,7 +36,5 @@ pub(crate) fn put(answers: &mut [u32], at: usize, answer: &Encoded)
         take at answers.old
         ++ (take answer.now.len answer.now.words ++ drop (at + answer.now.len) answers.old) }
 {
-    for i in 0..answer.len {
-        answers[at + i] = answer.words[i];
-    }
+    answers[at..at + answer.len].copy_from_slice(&answer.words[..answer.len]);
 }

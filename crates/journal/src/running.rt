@@ -1,27 +1,20 @@
 // Running a journal into a ledger.
 ghost use Rattle.std.specs.Prelude.{◌≡◌, ◌≤◌, length, IfSome};
-ghost use Rattle.ledger.specs.Meanings.{meaning};
 ghost use Rattle.ledger.specs.View.{view};
 ghost use Rattle.journal.specs.Runs.{run, Runs, stopped_at};
 
 use crate::answers::{answer_len, put};
 use crate::ran::Ran;
 use crate::stop::Stop;
-use balancing::BalancingRule;
 use calls::Refusal;
-use ledger::Ledger;
-use prices::PriceSource;
+use ledger::{Ledger, RateZone};
 use words::{Reader, encode};
 
 // Reads the words to their end or to a stop, makes each call that is read, and writes the answers.
-pub fn run<B: BalancingRule, O: PriceSource, S: PriceSource, E: PriceSource>(
-    ledger: &mut Ledger<B, O, S, E>,
-    words: &[u32],
-    answers: &mut [u32],
-) -> Ran
+// Kept: the C interface needs it: it lends the answer memory, and learns how much of it is written.
+pub fn run<Z: RateZone>(ledger: &mut Ledger<Z>, words: &[u32], answers: &mut [u32]) -> Ran
     ensures ran { Runs
-        (run (meaning B.BalancingRule.band O.PriceSource.quote S.PriceSource.quote E.PriceSource.quote ledger.old.zone)
-        words.now (length answers.old) (view ledger.old.tables))
+        (run (Z.means ledger.old.zone) words.now (length answers.old) (view ledger.old.tables))
         result answers.old answers.new (view ledger.new.tables) }
     ensures near { IfSome result.stop (λ s. s.place ≤ 8192) }
     ensures zone { ledger.new.zone ≡ ledger.old.zone }

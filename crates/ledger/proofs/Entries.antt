@@ -1,15 +1,16 @@
 -- The book's terms, read off the three tables beside one another: their number, one of them, one written, one more.
-use Rattle.std.proofs.Common.{◌≡◌, ℕ, zero, suc, ◌+◌, ◌-◌, ◌<◌, ◌≤◌, true, false, ◌||◌, eqb, ltb, ◌⊎◌, List}
+use Rattle.std.proofs.Common.{◌≡◌, ℕ, zero, suc, ◌+◌, ◌-◌, ◌<◌, ◌≤◌, false, ◌||◌, eqb, ltb, List}
 use Rattle.std.proofs.Common.{[], ◌∷◌, ◌++◌, length, get_or, set, ℤ, pos, ◌+ℤ◌, vec_items, vec_len, sym}
-use Rattle.std.proofs.Common.{refl, ap, ◌∙◌, inl, inr, le_of_suc-le-suc, not-suc-le-zero, arith}
+use Rattle.std.proofs.Common.{refl, ap, ◌∙◌, le_of_suc-le-suc, not-suc-le-zero, arith}
 use native.Mathlib.Nat.{suc_inj}
+use Rattle.std.specs.List.{list_any}
 use Rattle.std.proofs.lemmas.List.{length-map, map_push}
-use Rattle.std.proofs.lemmas.Bool.{or_left, or_right, or_from, or_parts, eqb-false}
-use Rattle.std.proofs.lemmas.Bool.{ltb-false, eq-eqb, ne_eqb, lt-ltb, le-ltb}
+use Rattle.std.proofs.lemmas.Bool.{or_parts, eqb-false}
+use Rattle.std.proofs.lemmas.Bool.{ltb-false}
 use Rattle.amounts.specs.Rows.{sums}
 use Rattle.amounts.specs.Tables.{rows_of, grown}
 use Rattle.amounts.specs.declared.row.Row.{Row}
-use Rattle.ledger.specs.Book.{Term, no_term, missing, term_at, some_of, shares}
+use Rattle.ledger.specs.Book.{Term, no_term, missing, term_at, shares}
 use Rattle.ledger.specs.View.{Gas, Charges, entry, entries, view, clashes}
 use Rattle.ledger.specs.declared.term.Term.{Term as Contract}
 use Rattle.ledger.specs.declared.tables.Tables.{Tables}
@@ -22,8 +23,8 @@ length_entries (t ∷ ts) (x ∷ gs) [] g l = l
 length_entries (t ∷ ts) (x ∷ gs) (y ∷ ls) g l = ap suc (length_entries ts gs ls (suc_inj g) (suc_inj l))
 
 pub some_entries : (pool first last : ℕ) (ts : List Contract) (gs ls : List (List ℤ)) → length gs ≡ length ts
-    → length ls ≡ length ts → some_of (shares pool first last) (entries ts gs ls)
-    ≡ some_of (clashes pool first last) ts
+    → length ls ≡ length ts → list_any (shares pool first last) (entries ts gs ls)
+    ≡ list_any (clashes pool first last) ts
 some_entries pool first last [] gs ls g l = refl
 some_entries pool first last (t ∷ ts) [] ls g l = absurd (omega (arith, g))
 some_entries pool first last (t ∷ ts) (x ∷ gs) [] g l = absurd (omega (arith, l))
@@ -73,7 +74,7 @@ pub term_count : (t : Tables) → length (view t).terms ≡ vec_len t.terms
 term_count t = omega (arith, length_entries (vec_items t.terms) _ _ (gas_level t) (lines_level t), t.terms.ok.0)
 
 pub view_some : (t : Tables) (pool first last : ℕ)
-    → some_of (shares pool first last) (view t).terms ≡ some_of (clashes pool first last) (vec_items t.terms)
+    → list_any (shares pool first last) (view t).terms ≡ list_any (clashes pool first last) (vec_items t.terms)
 view_some t pool first last = some_entries pool first last (vec_items t.terms) _ _ (gas_level t) (lines_level t)
 
 -- one row more in each table
@@ -87,17 +88,6 @@ view_push t ts gs ls c g l x y z =
       map_push (λ (r : Charges). r.figures) (vec_items t.lines) l,
     )
     (entries_push (vec_items t.terms) _ _ c g.figures l.figures (gas_level t) (lines_level t)))
-
--- a term's number is its place and one more
-
-pub number_lacks : (t : Tables) (n : ℕ) → (n < 1) ⊎ (vec_len t.terms < n) → missing (view t) n ≡ true
-number_lacks t n (inl h) = or_left (eqb n 0) (ltb (length (view t).terms) n) (eq-eqb n 0 (omega arith))
-number_lacks t n (inr h) = or_right (eqb n 0) (ltb (length (view t).terms) n)
-    (lt-ltb (length (view t).terms) n (omega (arith, term_count t)))
-
-pub number_holds : (t : Tables) (n : ℕ) → 1 ≤ n → n ≤ vec_len t.terms → missing (view t) n ≡ false
-number_holds t n h k = or_from (eqb n 0) (ltb (length (view t).terms) n) (ne_eqb n 0 (λ e. omega arith))
-    (le-ltb (length (view t).terms) n (omega (arith, term_count t)))
 
 pub read_at : (t : Tables) (n i : ℕ) (c : Contract) → i + 1 ≡ n → i < vec_len t.terms
     → c ≡ get_or (vec_items t.terms) i c

@@ -2,5 +2,4 @@ pub mod Entries
 pub mod Keeping
 pub mod Orders
 pub mod Posts
-pub mod Searches
 pub mod States

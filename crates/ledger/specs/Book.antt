@@ -1,5 +1,5 @@
 -- The plain book: a state of its own, and what can be read off it. It never sees a table of the code.
-use Rattle.std.specs.Prelude.{ℕ, ◌-◌, Bool, false, cond, ◌&&◌, ◌||◌, List, [], ◌∷◌, length}
+use Rattle.std.specs.Prelude.{ℕ, ◌-◌, Bool, cond, ◌&&◌, ◌||◌, List, [], length}
 use Rattle.std.specs.Prelude.{replicate, ℤ, pos, ◌==◌, nat_le, nat_lt, slice_index_or}
 use Rattle.ledger.specs.declared.allowances.Allowances.{Allowances}
 use Rattle.prices.specs.declared.point.Point.{Point}
@@ -57,11 +57,6 @@ missing s n = n == 0 || nat_lt (length s.terms) n
 
 abbrev pub term_at : State → ℕ → Term
 term_at s n = slice_index_or s.terms (n - 1) no_term
-
--- Some element passes the test.
-abbrev pub some_of : {A : Type 0} → (A → Bool) → List A → Bool
-some_of test [] = false
-some_of test (x ∷ xs) = test x || some_of test xs
 
 -- The term is of this pool and shares a day with the span.
 abbrev pub shares : ℕ → ℕ → ℕ → Term → Bool

@@ -1,6 +1,7 @@
 -- The calls: each as its refusals with their conditions, in their order, and what a done call answers and changes.
 use Rattle.std.specs.Prelude.{◌≡◌, ℕ, ◌+◌, ◌-◌, ◌*◌, Bool, cond, not, ◌&&◌, ◌||◌, List, [], ◌∷◌, ◌++◌, length, ℤ}
 use Rattle.std.specs.Prelude.{pos, ◌+ℤ◌, ◌-ℤ◌, is_some, is_err, Ok, Err, Result, nat_le, nat_lt, slice_set}
+use Rattle.std.specs.List.{list_any}
 use Rattle.std.specs.Option.{unwrap_or}
 use Rattle.amounts.specs.Rows.{within, sums}
 use Rattle.balancing.specs.Bands.{Band}
@@ -9,7 +10,7 @@ use Rattle.prices.specs.Quotes.{Quote}
 use Rattle.prices.specs.declared.point.Point.{Point}
 use Rattle.prices.specs.declared.point.Point.TheVariants.{Western}
 use Rattle.prices.specs.declared.source.Lack.{Lack}
-use Rattle.ledger.specs.Book.{State, Term, with_terms, opened, missing, term_at, some_of, shares, status_of, on_offer}
+use Rattle.ledger.specs.Book.{State, Term, with_terms, opened, missing, term_at, shares, status_of, on_offer}
 use Rattle.calls.specs.declared.call.Call.{Call}
 use Rattle.calls.specs.declared.call.Call.TheVariants.{Day, Open, Post, Statement}
 use Rattle.calls.specs.declared.call.Answer.{Answer}
@@ -37,6 +38,10 @@ answered (Err e) = Refused e
 abbrev pub stated : Result StatementOf Refusal → Answer
 stated (Ok s) = Stated s
 stated (Err e) = Refused e
+
+abbrev pub given : Result Answer Refusal → Answer
+given (Ok answer) = answer
+given (Err e) = Refused e
 
 -- The first condition that holds is the refusal, and it changes nothing; where none holds, the call is done.
 abbrev pub first_of : State → List (Bool × Refusal) → Outcome → Outcome
@@ -70,7 +75,7 @@ in_range today pool point mdv first last =
 abbrev pub open_refusals : State → ℕ → ℕ → ℕ → ℕ → ℕ → List (Bool × Refusal)
 open_refusals s pool point mdv first last =
     (not (in_range s.day pool point mdv first last), OutOfRange)
-    ∷ (some_of (shares pool first last) s.terms, Overlap)
+    ∷ (list_any (shares pool first last) s.terms, Overlap)
     ∷ (nat_le 64 (length s.terms), Full)
     ∷ []
 

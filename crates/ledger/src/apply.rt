@@ -1,82 +1,59 @@
-// The ledger's calls over every balancing rule and price source.
+// The ledger's calls over every rate zone.
 ghost use Rattle.std.specs.Prelude.{◌≡◌};
-ghost use Rattle.ledger.specs.Calls.{Meets, post_call, step, answered, stated};
+ghost use Rattle.ledger.specs.Calls.{Meets, post_call, step, answered, given};
 ghost use Rattle.ledger.specs.Laws.{Keeps};
-ghost use Rattle.ledger.specs.Meanings.{meaning};
 ghost use Rattle.ledger.specs.View.{view};
 
 use crate::books::Ledger;
-use balancing::BalancingRule;
-use calls::{Answer, Call, Refusal, Stated};
-use prices::PriceSource;
+use crate::rate_zone::RateZone;
+use calls::{Answer, Call, Refusal};
 
-// A call's result as its answer.
-fn answer(res: Result<u32, Refusal>) -> Answer
-    ensures { result ≡ answered res }
-{
-    match res {
-        Ok(figure) => Answer::Done(figure),
-        Err(refusal) => Answer::Refused(refusal),
-    }
-}
-
-fn statement(res: Result<Stated, Refusal>) -> Answer
-    ensures { result ≡ stated res }
-{
-    match res {
-        Ok(stated) => Answer::Stated(stated),
-        Err(refusal) => Answer::Refused(refusal),
-    }
-}
-
-impl<B: BalancingRule, O: PriceSource, S: PriceSource, E: PriceSource> Ledger<B, O, S, E> {
+impl<Z: RateZone> Ledger<Z> {
     // Books a term's next unposted day and answers it.
     fn post(&mut self, term: u32, delivered: u32, consumed: u32) -> Result<u32, Refusal>
         ensures call { Meets
-            (post_call (O.PriceSource.quote self.old.zone.overrun) (view self.old.tables) term delivered consumed)
+            (post_call (Z.means self.old.zone).overrun (view self.old.tables) term delivered consumed)
             (answered result) (view self.new.tables) }
         ensures zone { self.new.zone ≡ self.old.zone }
     {
         let posting = self.tables.plan_post(term, delivered, consumed)?;
-        let owed = posting.owed(&self.zone.overrun)?;
+        let owed = posting.owed(&self.zone)?;
         self.tables.book_post(posting, owed)
     }
 
     // The call, one row for each.
-    fn make(&mut self, call: Call) -> Answer
+    fn make(&mut self, call: Call) -> Result<Answer, Refusal>
         ensures call { Meets
-            (step (meaning B.BalancingRule.band O.PriceSource.quote S.PriceSource.quote E.PriceSource.quote self.old.zone)
-            (view self.old.tables) call)
-            result (view self.new.tables) }
+            (step (Z.means self.old.zone) (view self.old.tables) call)
+            (given result) (view self.new.tables) }
         ensures zone { self.new.zone ≡ self.old.zone }
     {
-        match call {
-            Call::Day => answer(self.tables.turn()),
+        Ok(match call {
+            Call::Day => Answer::Done(self.tables.turn()?),
             Call::Open {
                 pool,
                 point,
                 mdv,
                 first,
                 last,
-            } => answer(self.tables.open(pool, point, mdv, first, last)),
+            } => Answer::Done(self.tables.open(pool, point, mdv, first, last)?),
             Call::Post {
                 term,
                 delivered,
                 consumed,
-            } => answer(self.post(term, delivered, consumed)),
-            Call::Statement { term } => statement(self.tables.state(term)),
-        }
+            } => Answer::Done(self.post(term, delivered, consumed)?),
+            Call::Statement { term } => Answer::Stated(self.tables.state(term)?),
+        })
     }
 
     // Makes a call: its answer and the state after it are the book's, and a refused call changes nothing.
     pub fn apply(&mut self, call: Call) -> Answer
         ensures call { Meets
-            (step (meaning B.BalancingRule.band O.PriceSource.quote S.PriceSource.quote E.PriceSource.quote self.old.zone)
-            (view self.old.tables) call)
+            (step (Z.means self.old.zone) (view self.old.tables) call)
             result (view self.new.tables) }
         ensures keeps { Keeps (view self.old.tables) result (view self.new.tables) }
         ensures zone { self.new.zone ≡ self.old.zone }
     {
-        self.make(call)
+        self.make(call).unwrap_or_else(Answer::Refused)
     }
 }

@@ -1,9 +1,8 @@
 // The ledger: the tables of a rate zone.
 use crate::tables::Tables;
-use crate::zone::Zone;
 
 #[derive(Drop)]
-pub struct Ledger<B, O, S, E> {
+pub struct Ledger<Z> {
     pub tables: Tables,
-    pub zone: Zone<B, O, S, E>,
+    pub zone: Z,
 }

@@ -8,7 +8,6 @@ use crate::allowances::Allowances;
 use crate::books::Ledger;
 use crate::failing::NotMade;
 use crate::tables::Tables;
-use crate::zone::Zone;
 use calls::Refusal;
 use std::alloc::{AllocError, Global};
 
@@ -38,13 +37,9 @@ impl Tables {
     }
 }
 
-impl<B: Drop, O: Drop, S: Drop, E: Drop> Ledger<B, O, S, E> {
+impl<Z: Drop> Ledger<Z> {
     // A new ledger of a zone, with a suspension allowance for each point of at most 10,000,000 a day.
-    pub fn new(
-        heap: Global,
-        zone: Zone<B, O, S, E>,
-        allowances: Allowances,
-    ) -> Result<Ledger<B, O, S, E>, NotMade>
+    pub fn new(heap: Global, zone: Z, allowances: Allowances) -> Result<Ledger<Z>, NotMade>
         ensures { MatchResult result
             (λ l. (allowed allowances ≡ true) × (view l.tables ≡ new_book allowances) × (l.zone ≡ zone))
             (Unmade allowances) }

@@ -1,10 +1,11 @@
 // The call open.
 ghost use Rattle.std.specs.Prelude.{◌≡◌, ◌+◌, ◌<◌, ◌≤◌, [], ◌∷◌, ◌++◌, length};
 ghost use Rattle.std.specs.Prelude.{replicate, pos, is_some, IfSome, vec_len};
+ghost use Rattle.std.specs.List.{list_any};
 ghost use Rattle.std.specs.Option.{unwrap_or};
 ghost use Rattle.prices.specs.Points.{point_at};
 ghost use Rattle.prices.specs.declared.point.Point.TheVariants.{Western};
-ghost use Rattle.ledger.specs.Book.{some_of, opened, with_terms};
+ghost use Rattle.ledger.specs.Book.{opened, with_terms};
 ghost use Rattle.ledger.specs.Calls.{Meets, open_call, answered, in_range};
 ghost use Rattle.ledger.specs.View.{view, entry, clashes};
 
@@ -50,14 +51,9 @@ impl Term {
 
 // Some term of this pool shares a day with the span.
 fn overlaps(terms: &[Term], pool: u32, first: u32, last: u32) -> bool
-    ensures { result ≡ some_of (clashes pool first last) terms.now }
+    ensures { result ≡ list_any (clashes pool first last) terms.now }
 {
-    for term in terms {
-        if term.clashes(pool, first, last) {
-            return true;
-        }
-    }
-    false
+    terms.iter().any(|term| term.clashes(pool, first, last))
 }
 
 impl Tables {

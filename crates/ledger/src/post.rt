@@ -39,12 +39,10 @@ impl Tables {
             (λ i. (i + 1 ≡ term) × (i < vec_len self.now.terms) × (missing (view self.now) term ≡ false))
             (λ e. (e ≡ NoTerm) × (missing (view self.now) term ≡ true)) }
     {
-        let n = term as usize;
-        let count = self.terms.len();
-        if n < 1 || n > count {
-            return Err(Refusal::NoTerm);
+        match (term as usize).checked_sub(1) {
+            Some(at) if at < self.terms.len() => Ok(at),
+            _ => Err(Refusal::NoTerm),
         }
-        Ok(n - 1)
     }
 
     // Whether a term's gas may grow by this much.
@@ -113,13 +111,8 @@ impl Term {
         ensures { (gas lines : List ℤ) → (balance : ℤ) (after : List ℤ)
             → entry result (balance ∷ []) after ≡ posted (entry self.now gas lines) balance after }
     {
-        Term {
-            pool: self.pool,
-            point: self.point,
-            mdv: self.mdv,
-            first: self.first,
-            last: self.last,
-            next: self.next + 1,
-        }
+        let mut term = *self;
+        term.next += 1;
+        term
     }
 }

@@ -9,6 +9,7 @@ use amounts::{Charges, Gas};
 pub struct Tables {
     pub day: u32,
     pub allowances: Allowances,
+    // Kept: a rule of the project needs it: one generic booking at a place of a lent table, for both kinds of amount.
     pub terms: Vec<Term>,
     pub gas: Vec<Gas>,
     pub lines: Vec<Charges>,

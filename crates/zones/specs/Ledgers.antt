@@ -1,8 +1,6 @@
 -- What the ledgers of the zones are made of.
 use Rattle.std.specs.Prelude.{◌≡◌, ℕ, ◌<◌, ◌≤◌}
-use Rattle.balancing.specs.Bands.{Band}
 use Rattle.balancing.specs.Rules.{north_band}
-use Rattle.balancing.specs.declared.north.North.{North}
 use Rattle.calls.specs.declared.refusal.Refusal.TheVariants.{OutOfRange}
 use Rattle.ledger.specs.Calls.{Meaning}
 use Rattle.ledger.specs.declared.allowances.Allowances.{Allowances}
@@ -11,9 +9,6 @@ use Rattle.ledger.specs.declared.failing.NotMade.TheVariants.{Refused, NoMemory}
 use Rattle.zones.specs.Sources.{north_quote}
 
 -- North: both edges are 0, and the reference price is the price of all three sources.
-abbrev pub north_rule : North → ℕ → ℕ → Band
-north_rule n = north_band
-
 abbrev pub north_means : ℕ → Meaning
 north_means price =
     record { band = north_band; overrun = north_quote price; shortage = north_quote price; excess = north_quote price }

@@ -5,6 +5,6 @@ mod north;
 mod sources;
 mod worked;
 
-pub use north::{NorthLedger, north_ledger};
+pub use north::{NorthLedger, NorthZone, north_ledger};
 pub use sources::{egd_excess, egd_overrun, egd_shortage, north_price};
 pub use worked::figures_stand;

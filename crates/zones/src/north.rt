@@ -2,24 +2,24 @@
 // point.
 ghost use Rattle.std.specs.Prelude.{◌≡◌, IfOk, IfErr};
 ghost use Rattle.ledger.specs.Book.{new_book};
-ghost use Rattle.ledger.specs.Meanings.{meaning};
 ghost use Rattle.ledger.specs.View.{view};
-ghost use Rattle.prices.specs.Sources.{reference_means};
-ghost use Rattle.zones.specs.Ledgers.{north_rule, north_means, north_allowances, NorthUnmade};
+ghost use Rattle.zones.specs.Ledgers.{north_means, north_allowances, NorthUnmade};
 
 use crate::sources::north_price;
 use balancing::North;
-use ledger::{Allowances, Ledger, NotMade, Zone};
+use ledger::{Allowances, Ledger, NotMade, RateZone, Zone};
 use prices::Reference;
 use std::alloc::Global;
 
-pub type NorthLedger = Ledger<North, Reference, Reference, Reference>;
+// A zone of North's rule and one reference price for each of the three sources.
+pub type NorthZone = Zone<North, Reference, Reference, Reference>;
+
+pub type NorthLedger = Ledger<NorthZone>;
 
 // A new northern ledger, refused if the price is above 10,000,000.
 pub fn north_ledger(heap: Global, price: u32) -> Result<NorthLedger, NotMade>
     ensures tables { IfOk result (λ l. view l.tables ≡ new_book north_allowances) }
-    ensures means { IfOk result (λ l.
-        meaning north_rule reference_means reference_means reference_means l.zone ≡ north_means price) }
+    ensures means { IfOk result (λ l. ⟦<NorthZone as RateZone>⟧.means l.zone ≡ north_means price) }
     ensures refused { IfErr result (NorthUnmade price) }
 {
     let source = north_price(price)?;

@@ -1,6 +1,7 @@
 // The price sources of the zones: each is made by one call, from its figures.
-ghost use Rattle.std.specs.Prelude.{◌≡◌, is_ok, IfOk, vec_len, nat_le};
-ghost use Rattle.prices.specs.Ends.{is_daily, is_monthly};
+ghost use Rattle.std.specs.Prelude.{◌≡◌, ◌&&◌, is_ok, IfOk, vec_len, nat_le};
+ghost use Rattle.prices.specs.Ends.{is_daily, is_monthly, monthly_quote};
+ghost use Rattle.prices.specs.Layers.{is_percent, are_tolls, shared, tolled};
 ghost use Rattle.prices.specs.Sources.{reference_means, daily_means, monthly_means, share_means, toll_means};
 ghost use Rattle.zones.specs.Sources.{overrun_quote, shortage_quote, excess_quote, north_quote};
 
@@ -18,6 +19,19 @@ pub fn egd_overrun(start: u32, highs: Vec<u32>) -> Result<Share<Daily>, OutOfRan
     Share::new(150, Daily::new(start, highs)?)
 }
 
+// Tolls over a share of the monthly index, in per cent.
+fn index_price(
+    percent: u32,
+    tolls: Tolls,
+    index: Vec<u32>,
+) -> Result<Toll<Share<Monthly>>, OutOfRange>
+    ensures test { is_ok result ≡ (are_tolls tolls && (is_percent percent && is_monthly (vec_len index))) }
+    ensures quote { IfOk result (λ s.
+        toll_means (share_means monthly_means) s ≡ tolled tolls (shared percent (monthly_quote index.items))) }
+{
+    Toll::new(tolls, Share::new(percent, Monthly::new(index)?)?)
+}
+
 // EGD's shortage: tolls over 120 per cent of the monthly index.
 pub fn egd_shortage(index: Vec<u32>) -> Result<Toll<Share<Monthly>>, OutOfRange>
     ensures test { is_ok result ≡ is_monthly (vec_len index) }
@@ -28,7 +42,7 @@ pub fn egd_shortage(index: Vec<u32>) -> Result<Toll<Share<Monthly>>, OutOfRange>
         dawn: TOLL_A - TOLL_D,
         ontario: TOLL_A,
     };
-    Toll::new(tolls, Share::new(120, Monthly::new(index)?)?)
+    index_price(120, tolls, index)
 }
 
 // EGD's excess: tolls over 80 per cent of the monthly index.
@@ -41,7 +55,7 @@ pub fn egd_excess(index: Vec<u32>) -> Result<Toll<Share<Monthly>>, OutOfRange>
         dawn: -TOLL_D,
         ontario: 0,
     };
-    Toll::new(tolls, Share::new(80, Monthly::new(index)?)?)
+    index_price(80, tolls, index)
 }
 
 // North's overrun, shortage and excess: its reference price.

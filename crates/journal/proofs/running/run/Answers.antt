@@ -2,7 +2,6 @@ use Rattle.std.proofs.Common.{◌≡◌, ◌-◌, ◌<◌, ◌≤◌, length, dr
 use Rattle.std.proofs.lemmas.List.{length-drop}
 use Rattle.std.proofs.lemmas.Bool.{leb-false, leb-true}
 use Rattle.ledger.specs.Calls.{Meets, step}
-use Rattle.ledger.specs.Meanings.{meaning}
 use Rattle.ledger.specs.View.{view}
 use Rattle.words.specs.Writing.{answer_words}
 use Rattle.words.specs.Reading.{Used, Stopped}
@@ -12,8 +11,7 @@ use Rattle.journal.proofs.running.run.Goals as goal
 
 pub returns-in-Err : goal.returns-in-Err
 returns-in-Err g c =
-    let m = meaning g.B.BalancingRule.band g.O.PriceSource.quote g.S.PriceSource.quote g.E.PriceSource.quote
-    c.args.ledger.now.zone in
+    let m = g.Z.RateZone.means c.args.ledger.now.zone in
     let words = c.args.words.now in
     let inv = c.calls.invariant in
     let place = c.calls.reader.place in
@@ -35,8 +33,7 @@ returns-in-Err g c =
 
 pub returns-then-answers-written : goal.returns-then-answers-written
 returns-then-answers-written g c =
-    let m = meaning g.B.BalancingRule.band g.O.PriceSource.quote g.S.PriceSource.quote g.E.PriceSource.quote
-    c.args.ledger.now.zone in
+    let m = g.Z.RateZone.means c.args.ledger.now.zone in
     let words = c.args.words.now in
     let inv = c.calls.invariant in
     let place = c.calls.reader.place in
@@ -55,8 +52,7 @@ returns-then-answers-written g c =
 
 pub calls-preserved : goal.calls-preserved
 calls-preserved g c =
-    let m = meaning g.B.BalancingRule.band g.O.PriceSource.quote g.S.PriceSource.quote g.E.PriceSource.quote
-    c.args.ledger.now.zone in
+    let m = g.Z.RateZone.means c.args.ledger.now.zone in
     let words = c.args.words.now in
     let inv = c.calls.invariant in
     let place = c.calls.reader.place in
@@ -65,8 +61,7 @@ calls-preserved g c =
     let used : Used words place c.in-Ok.call c.call.new.self.place =
     subst (λ ws. Used ws place c.in-Ok.call c.call.new.self.place) inv.4 c.in-Ok.ensures.read in
     let met : Meets (step m s c.in-Ok.call) c.apply.result (view c.apply.new.self.tables) =
-    subst (λ z. Meets (step (meaning g.B.BalancingRule.band g.O.PriceSource.quote g.S.PriceSource.quote
-    g.E.PriceSource.quote z) s c.in-Ok.call) c.apply.result (view c.apply.new.self.tables)) inv.3
+    subst (λ z. Meets (step (g.Z.RateZone.means z) s c.in-Ok.call) c.apply.result (view c.apply.new.self.tables)) inv.3
     c.apply.ensures.call in
     let len = c.encode-answer.result.len in
     let n : len ≡ c.answer_len.result = c.encode-answer.ensures.len ∙ ap (λ x. length (answer_words x)) met.answers
@@ -87,8 +82,7 @@ calls-preserved g c =
 
 pub returns : goal.returns
 returns g c =
-    let m = meaning g.B.BalancingRule.band g.O.PriceSource.quote g.S.PriceSource.quote g.E.PriceSource.quote
-    c.args.ledger.now.zone in
+    let m = g.Z.RateZone.means c.args.ledger.now.zone in
     let words = c.args.words.now in
     let inv = c.calls.invariant in
     let place = c.calls.reader.place in

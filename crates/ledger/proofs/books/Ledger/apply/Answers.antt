@@ -1,15 +1,9 @@
-use Rattle.ledger.specs.Meanings.{meaning}
-use Rattle.ledger.specs.View.{view}
+use Rattle.std.proofs.Common.{◌≡◌, rules}
+use Rattle.ledger.specs.Calls.{given}
 use Rattle.ledger.proofs.Keeping.{meets_keeps}
 use Rattle.ledger.proofs.books.Ledger.apply.Goals as goal
 
-pub returns : goal.returns
-returns g c =
-    let m = meaning g.B.BalancingRule.band g.O.PriceSource.quote g.S.PriceSource.quote g.E.PriceSource.quote
-    c.args.self.now.zone in
-    let met = c.make.ensures.call in
-    record {
-      call = met;
-      keeps = meets_keeps m (view c.args.self.now.tables) _ c.args.call _ met;
-      zone = c.make.ensures.zone;
-    }
+pub returns-clause-keeps : goal.returns-clause-keeps
+returns-clause-keeps g c =
+    let e : c.unwrap_or_else.result ≡ given c.make.result = search rules in
+    rw e (meets_keeps (g.Z.RateZone.means c.args.self.now.zone) _ _ c.args.call _ c.make.ensures.call)

@@ -10,7 +10,7 @@ returns g c =
     let t = c.args.self.now.term in
     let short = t.mdv - c.args.self.now.delivered in
     let quoted = c.in_ok-price.ensures in
-    let fair = g.met.O.PriceSource.fair c.args.overrun.now t.point t.next t.next (omega arith) (omega arith)
+    let fair = (g.met.Z.RateZone.fair c.args.zone.now).overrun t.point t.next t.next (omega arith) (omega arith)
     (omega arith) in
     let low : c.in_ok-price.price ≤ 10000000 = subst (Fair t.next t.next) (sym quoted) fair in
     let few : short ≤ 500000 = omega arith in

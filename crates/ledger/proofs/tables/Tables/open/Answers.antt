@@ -1,6 +1,7 @@
 use Rattle.std.proofs.Common.{◌<◌, ◌≤◌, [], ◌∷◌, ◌++◌, length, sym, ap, ◌∙◌, arith}
 use Rattle.std.proofs.lemmas.Bool.{not_from_true, le-leb, lt-leb}
-use Rattle.ledger.specs.Book.{some_of, with_terms}
+use Rattle.std.specs.List.{list_any}
+use Rattle.ledger.specs.Book.{with_terms}
 use Rattle.ledger.specs.View.{view}
 use Rattle.calls.specs.declared.call.Answer.TheVariants.{Done}
 use Rattle.ledger.proofs.Entries.{term_count, view_some}
@@ -11,7 +12,7 @@ pub returns-then-overlaps : goal.returns-then-overlaps
 returns-then-overlaps c =
     let e = view_some c.args.self.now c.args.pool c.args.first c.args.last in
     passes _ _ _ _ _ (not_from_true _ (sym c.in-Some.ensures.test))
-    (refuses _ _ _ _ (e ∙ ap (some_of _) (sym c.deref.ensures.value) ∙ sym c.if-overlaps.ensures))
+    (refuses _ _ _ _ (e ∙ ap (list_any _) (sym c.deref.ensures.value) ∙ sym c.if-overlaps.ensures))
 
 pub returns-then-len-ge64 : goal.returns-then-len-ge64
 returns-then-len-ge64 c =
@@ -19,7 +20,7 @@ returns-then-len-ge64 c =
     let e = view_some t c.args.pool c.args.first c.args.last in
     let n : 64 ≤ length (view t).terms = omega (arith, term_count t) in
     passes _ _ _ _ _ (not_from_true _ (sym c.in-Some.ensures.test))
-    (passes _ _ _ _ _ (e ∙ ap (some_of _) (sym c.deref.ensures.value) ∙ sym c.if-overlaps.ensures)
+    (passes _ _ _ _ _ (e ∙ ap (list_any _) (sym c.deref.ensures.value) ∙ sym c.if-overlaps.ensures)
     (refuses _ _ _ _ (le-leb _ _ n)))
 
 pub returns : goal.returns
@@ -28,7 +29,7 @@ returns c =
     let e = view_some t c.args.pool c.args.first c.args.last in
     let n : length (view t).terms < 64 = omega (arith, term_count t) in
     passes _ _ _ _ _ (not_from_true _ (sym c.in-Some.ensures.test))
-    (passes _ _ _ _ _ (e ∙ ap (some_of _) (sym c.deref.ensures.value) ∙ sym c.if-overlaps.ensures)
+    (passes _ _ _ _ _ (e ∙ ap (list_any _) (sym c.deref.ensures.value) ∙ sym c.if-overlaps.ensures)
     (passes _ _ _ _ _ (lt-leb _ _ n)
     (record {
       answers = ap Done c.add.ensures.value;

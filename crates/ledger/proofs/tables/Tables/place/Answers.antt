@@ -1,13 +1,10 @@
-use Rattle.std.proofs.Common.{refl, inl, inr, ⊎_elim, arith}
-use Rattle.ledger.proofs.Entries.{number_lacks, number_holds}
+use Rattle.std.proofs.Common.{arith}
+use Rattle.std.proofs.lemmas.Bool.Decides.{nat_tests}
+use Rattle.ledger.proofs.Entries.{term_count}
 use Rattle.ledger.proofs.tables.Tables.place.Goals as goal
 
-pub returns-then-n-lt1 : goal.returns-then-n-lt1
-returns-then-n-lt1 c = (
-  refl,
-  number_lacks c.args.self.now c.args.term
-      (⊎_elim (λ h. inl h) (λ h. inr (omega arith)) c.then-n-lt1.either),
-)
+pub returns-in-Some : goal.returns-in-Some
+returns-in-Some c = grind (arith, nat_tests, term_count c.args.self.now)
 
-pub returns : goal.returns
-returns c = (omega arith, omega arith, number_holds c.args.self.now c.args.term (omega arith) (omega arith))
+pub returns-in_default : goal.returns-in_default
+returns-in_default c = grind (arith, nat_tests, term_count c.args.self.now)
