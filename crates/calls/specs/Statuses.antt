@@ -1,6 +1,5 @@
 -- The numbers of a term's statuses.
-use Rattle.std.specs.Prelude.{◌≡◌, ℕ, cond, Some, None, Option, Result, MatchResult, ◌==◌}
-use Rattle.calls.specs.declared.numbers.UnknownNumber.{UnknownNumber}
+use Rattle.std.specs.Prelude.{ℕ, cond, Some, None, Option, ◌==◌}
 use Rattle.calls.specs.declared.status.Status.{Status}
 use Rattle.calls.specs.declared.status.Status.TheVariants.{Waiting, Active, Expired}
 
@@ -11,7 +10,3 @@ status_number Expired = 2
 
 abbrev pub status_at : ℕ → Option Status
 status_at n = cond (n == 0) (Some Waiting) (cond (n == 1) (Some Active) (cond (n == 2) (Some Expired) None))
-
--- The status of a number, or that number, which no status has.
-abbrev pub StatusOf : ℕ → Result Status UnknownNumber → Type 0
-StatusOf n r = MatchResult r (λ s. status_at n ≡ Some s) (λ e. (status_at n ≡ None) × (e.0 ≡ n))

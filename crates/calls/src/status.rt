@@ -1,6 +1,7 @@
 // A term's status, with its number.
-ghost use Rattle.std.specs.Prelude.{◌≡◌};
-ghost use Rattle.calls.specs.Statuses.{status_number, StatusOf};
+ghost use Rattle.std.specs.Prelude.{◌≡◌, IfErr};
+ghost use Rattle.std.specs.Result.{result_ok};
+ghost use Rattle.calls.specs.Statuses.{status_number, status_at};
 
 use crate::numbers::UnknownNumber;
 use std::fmt;
@@ -23,7 +24,7 @@ impl From<Status> for u32 {
 impl TryFrom<u32> for Status {
     type Error = UnknownNumber;
 
-    ghost try_from_gives = { StatusOf };
+    ghost try_from_gives = { λ n r. (result_ok r ≡ status_at n) × IfErr r (λ e. e.0 ≡ n) };
 
     fn try_from(number: u32) -> Result<Status, UnknownNumber> {
         match number {

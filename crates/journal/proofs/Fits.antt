@@ -4,6 +4,8 @@ use Rattle.std.proofs.Common.{length, get_or, ℤ, pos, nat_abs, Ok, Err, Result
 use Rattle.std.proofs.lemmas.Bool.{cond_both, lt-ltb, ltb-false, leb-true, eq-eqb, and_from, and_parts, or_parts}
 use Rattle.amounts.specs.Rows.{within}
 use Rattle.calls.specs.Refusals.{lacking_day}
+use Rattle.calls.specs.declared.arguments.Opening.{Opening}
+use Rattle.calls.specs.declared.arguments.Posting.{Posting}
 use Rattle.calls.specs.declared.call.Call.{Call}
 use Rattle.calls.specs.declared.call.Call.TheVariants.{Day, Open, Post, Statement}
 use Rattle.calls.specs.declared.refusal.Refusal.{Refusal}
@@ -82,20 +84,19 @@ module _ (t : Tables) (m : Meaning) (fair : FairSource m.overrun) where
       cond_both (leb x.mdv d) _ _ (λ (o : Result ℕ Lack). ltb (lack_in o).day 268435456 ≡ true) (λ _. refl)
       (λ _. lack_priced _ x.next _ b.ends (fair x.point x.next x.next b.starts (omega arith) (omega (arith, b.ends))))
 
-  post_fits : (n d c : ℕ) → Fit (Post n d c) (step m (view t) (Post n d c))
-  post_fits n d c =
-      cond_both (missing (view t) n) _ _ (Fit (Post n d c)) (λ _. record { fits = refl }) (λ found.
-      let b = term_holds t Bounds bounded n found in
-      first_fits (Post n d c) (view t) (behind (post_refusals m.overrun (view t) n d c))
-      (post_done m.overrun (view t) n d c)
-      (refl, (refl, (refl, (refl, (lack_small n d b, (refl, tt))))))
+  post_fits : (p : Posting) → Fit (Post p) (step m (view t) (Post p))
+  post_fits p =
+      cond_both (missing (view t) p.term) _ _ (Fit (Post p)) (λ _. record { fits = refl }) (λ found.
+      let b = term_holds t Bounds bounded p.term found in
+      first_fits (Post p) (view t) (behind (post_refusals m.overrun (view t) p.term p.delivered p.consumed))
+      (post_done m.overrun (view t) p.term p.delivered p.consumed)
+      (refl, (refl, (refl, (refl, (lack_small p.term p.delivered b, (refl, tt))))))
       (record { fits = lt-ltb _ _ (omega (arith, b.ends)) }))
 
-  open_fits : (pool point mdv first last : ℕ)
-      → Fit (Open pool point mdv first last) (step m (view t) (Open pool point mdv first last))
-  open_fits pool point mdv first last =
-      first_fits (Open pool point mdv first last) (view t) (open_refusals (view t) pool point mdv first last)
-      (open_done (view t) pool point mdv first last)
+  open_fits : (o : Opening) → Fit (Open o) (step m (view t) (Open o))
+  open_fits o =
+      first_fits (Open o) (view t) (open_refusals (view t) o.pool o.point o.mdv o.first o.last)
+      (open_done (view t) o.pool o.point o.mdv o.first o.last)
       (refl, (refl, (refl, tt)))
       (record { fits = lt-ltb _ _ (omega (arith, term_count t, t.few)) })
 
@@ -118,6 +119,6 @@ module _ (t : Tables) (m : Meaning) (fair : FairSource m.overrun) where
 pub answers_fit_words : AnswersFit
 answers_fit_words t m fair Day = (first_fits Day (view t) (day_refusals (view t)) (day_done (view t)) (refl, tt)
     (record { fits = lt-ltb _ _ (omega (arith, t.ends)) })).fits
-answers_fit_words t m fair (Open pool point mdv first last) = (open_fits t m fair pool point mdv first last).fits
-answers_fit_words t m fair (Post n d c) = (post_fits t m fair n d c).fits
+answers_fit_words t m fair (Open o) = (open_fits t m fair o).fits
+answers_fit_words t m fair (Post p) = (post_fits t m fair p).fits
 answers_fit_words t m fair (Statement n) = (statement_fits t m fair n).fits

@@ -34,10 +34,10 @@ statement_long s n h five =
 -- a call that is no statement
 call_two : (m : Meaning) (s : State) (call : Call) → ((n : ℕ) → call ≡ Statement n → ⊥) → Two (step m s call)
 call_two m s Day h = two_of s (day_refusals s) (day_done s) (record { two = refl })
-call_two m s (Open pool point mdv first last) h =
-    two_of s (open_refusals s pool point mdv first last) (open_done s pool point mdv first last) (record { two = refl })
-call_two m s (Post term delivered consumed) h =
-    two_of s (post_refusals m.overrun s term delivered consumed) (post_done m.overrun s term delivered consumed)
+call_two m s (Open o) h =
+    two_of s (open_refusals s o.pool o.point o.mdv o.first o.last) (open_done s o.pool o.point o.mdv o.first o.last) (record { two = refl })
+call_two m s (Post p) h =
+    two_of s (post_refusals m.overrun s p.term p.delivered p.consumed) (post_done m.overrun s p.term p.delivered p.consumed)
     (record { two = refl })
 call_two m s (Statement n) h = absurd (h n refl)
 

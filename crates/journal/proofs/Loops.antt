@@ -79,32 +79,28 @@ module _ (m : Meaning) (words : List ℕ) (room : ℕ) (start : State) where
         (run_from m (drop (place + read.1) words) (place + read.1) 0 n t)) left
 
     -- the same, by what reading, the call and the writing ensure
-    pub step_on : (call : Call) (after len : ℕ) (answer : Answer) (t : State) (encoded before out : List ℕ)
+    pub step_on : (call : Call) (after : ℕ) (answer : Answer) (t : State) (encoded before out : List ℕ)
         → place < length words → written ≤ length answers → drop written answers ≡ drop written before
-        → Used words place call after → Meets (step m s call) answer t → take len encoded ≡ answer_words answer
-        → len ≡ length (answer_words answer) → len ≤ room - written
-        → out ≡ take written answers ++ (take len encoded ++ drop (written + len) answers)
-        → SoFar m words room start out (written + len) after t
-        × (drop (written + len) out ≡ drop (written + len) before)
-    step_on call after len answer t encoded before out h k same u met e l fits o =
+        → Used words place call after → Meets (step m s call) answer t → encoded ≡ answer_words answer
+        → length encoded ≤ room - written → out ≡ with_answer answers written encoded
+        → SoFar m words room start out (written + length encoded) after t
+        × (drop (written + length encoded) out ≡ drop (written + length encoded) before)
+    step_on call after answer t encoded before out h k same u met e fits o =
         let a = answer_words (step m s call).answer in
-        let n : len ≡ length a = l ∙ ap (λ x. length (answer_words x)) met.answers in
-        let p : out ≡ with_answer answers written a =
-        o ∙ ap (λ ws. take written answers ++ (ws ++ drop (written + len) answers)) (e ∙ ap answer_words met.answers)
-        ∙ ap (λ x. take written answers ++ (a ++ drop (written + x) answers)) n in
-        let g = goes_on (call, u.used) h k u.read u.some (subst (λ x. x ≤ room - written) n fits) in (
-          subst (λ x. SoFar m words room start x (written + len) after t) (sym p)
-              (subst (λ x. SoFar m words room start (with_answer answers written a) (written + x) after t) (sym n)
+        let is : encoded ≡ a = e ∙ ap answer_words met.answers in
+        let g = goes_on (call, u.used) h k u.read u.some (subst (λ ws. length ws ≤ room - written) is fits) in (
+          subst (λ x. SoFar m words room start x (written + length encoded) after t) (sym o)
+              (subst (λ ws. SoFar m words room start (with_answer answers written ws) (written + length ws) after t)
+              (sym is)
               (subst (λ x. SoFar m words room start (with_answer answers written a) (written + length a) x t)
               (sym u.moved)
               (subst (λ x. SoFar m words room start (with_answer answers written a) (written + length a)
               (place + u.used) x) (sym met.leaves) g))),
-          subst (λ x. drop (written + x) out ≡ drop (written + x) before) (sym n)
-              (ap (drop (written + length a)) p
-              ∙ back answers a written k
-              ∙ sym (drop-drop (length a) written answers)
-              ∙ ap (drop (length a)) same
-              ∙ drop-drop (length a) written before),
+          ap (drop (written + length encoded)) o
+              ∙ back answers encoded written k
+              ∙ sym (drop-drop (length encoded) written answers)
+              ∙ ap (drop (length encoded)) same
+              ∙ drop-drop (length encoded) written before,
         )
 
     -- the run's end, by what is left of it

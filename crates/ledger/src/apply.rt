@@ -30,18 +30,8 @@ impl<Z: RateZone> Ledger<Z> {
     {
         Ok(match call {
             Call::Day => Answer::Done(self.tables.turn()?),
-            Call::Open {
-                pool,
-                point,
-                mdv,
-                first,
-                last,
-            } => Answer::Done(self.tables.open(pool, point, mdv, first, last)?),
-            Call::Post {
-                term,
-                delivered,
-                consumed,
-            } => Answer::Done(self.post(term, delivered, consumed)?),
+            Call::Open(o) => Answer::Done(self.tables.open(o.pool, o.point, o.mdv, o.first, o.last)?),
+            Call::Post(p) => Answer::Done(self.post(p.term, p.delivered, p.consumed)?),
             Call::Statement { term } => Answer::Stated(self.tables.state(term)?),
         })
     }

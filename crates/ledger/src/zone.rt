@@ -2,7 +2,7 @@
 ghost use Rattle.ledger.specs.Meanings.{meaning};
 
 use crate::rate_zone::RateZone;
-use balancing::{BalancingRule, Edges};
+use balancing::{BalancingRule, Edges, Extent};
 use prices::{Lack, Point, PriceSource, Span};
 
 #[derive(Drop)]
@@ -28,7 +28,7 @@ impl<B: BalancingRule, O: PriceSource, S: PriceSource, E: PriceSource> RateZone
     } };
 
     fn edges(&self, mdv: u32, days: u32) -> Edges {
-        self.rule.edges(mdv, days)
+        self.rule.edges(Extent { mdv, days })
     }
 
     fn overrun(&self, point: Point, span: Span) -> Result<u32, Lack> {

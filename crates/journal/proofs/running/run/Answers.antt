@@ -6,7 +6,7 @@ use Rattle.ledger.specs.View.{view}
 use Rattle.words.specs.Writing.{answer_words}
 use Rattle.words.specs.Reading.{Used, Stopped}
 use Rattle.journal.proofs.Near.{stop_near}
-use Rattle.journal.proofs.Loops.{step_on, ends_whole, ends_wrong, ends_full, reads}
+use Rattle.journal.proofs.Loops.{step_on, with_answer, ends_whole, ends_wrong, ends_full, reads}
 use Rattle.journal.proofs.running.run.Goals as goal
 
 pub returns-in-Err : goal.returns-in-Err
@@ -16,8 +16,8 @@ returns-in-Err g c =
     let inv = c.calls.invariant in
     let place = c.calls.reader.place in
     let h : place < length words = omega (arith, leb-false _ _ (sym c.calls-test.ensures), ap length inv.4) in
-    let stop : Stopped words place c.in-Err.place =
-    subst (λ ws. Stopped ws place c.in-Err.place) inv.4 c.in-Err.ensures.read.0 in
+    let stop : Stopped words place c.in-Err.misread.place =
+    subst (λ ws. Stopped ws place c.in-Err.misread.place) inv.4 c.in-Err.ensures.read.0 in
     rw c.stopped-in-Err.ensures (record {
       ran = reads m words _ _ _ _ _ _ c.if-words-gt8192.false
           (ends_wrong m words _ _ _ _ place _ inv.0 _ stop.off _ h inv.2 inv.1 stop.read stop.here);
@@ -63,19 +63,21 @@ calls-preserved g c =
     let met : Meets (step m s c.in-Ok.call) c.apply.result (view c.apply.new.self.tables) =
     subst (λ z. Meets (step (g.Z.RateZone.means z) s c.in-Ok.call) c.apply.result (view c.apply.new.self.tables)) inv.3
     c.apply.ensures.call in
-    let len = c.encode-answer.result.len in
-    let n : len ≡ c.answer_len.result = c.encode-answer.ensures.len ∙ ap (λ x. length (answer_words x)) met.answers
-    ∙ sym (c.answer_len.ensures m) in
-    let fits : len ≤ length c.args.answers.now - c.calls.written =
+    let encoded = c.encode-answer.result.items in
+    let n : length encoded ≡ c.answer_len.result = ap length c.encode-answer.ensures.words
+    ∙ ap (λ x. length (answer_words x)) met.answers ∙ sym (c.answer_len.ensures m) in
+    let fits : length encoded ≤ length c.args.answers.now - c.calls.written =
     omega (arith, n, c.if-answers-written.false, c.calls.auto.answers) in
     let on = step_on m words (length c.args.answers.now)
     (view c.args.ledger.now.tables) c.calls.answers c.calls.written place s inv.0 c.in-Ok.call
-    c.call.new.self.place len c.apply.result
-    (view c.apply.new.self.tables) c.encode-answer.result.words c.args.answers.now c.put.new.answers h inv.2 inv.1
-    used met c.encode-answer.ensures.words c.encode-answer.ensures.len fits c.put.ensures in (
-      on.0,
-      on.1,
-      omega (arith, n, c.if-answers-written.false, c.calls.auto.answers, c.put.auto.answers, inv.2),
+    c.call.new.self.place c.apply.result
+    (view c.apply.new.self.tables) encoded c.args.answers.now c.put.new.answers h inv.2 inv.1
+    used met c.encode-answer.ensures.words fits
+    (c.put.ensures ∙ ap (with_answer c.calls.answers c.calls.written) c.deref.ensures.0) in
+    let len : c.len-written.result ≡ length encoded = c.len-written.ensures.value in (
+      rw len on.0,
+      rw len on.1,
+      omega (arith, n, len, c.if-answers-written.false, c.calls.auto.answers, c.put.auto.answers, inv.2),
       c.apply.ensures.zone ∙ inv.3,
       c.call.ensures.same ∙ inv.4,
     )
