@@ -35,6 +35,11 @@ pub enum Fault<const LIMIT: u64> {
 }
 
 impl<const LIMIT: u64> fmt::Display for Fault<LIMIT> {
+    ghost use Rattle.std.specs.Prelude.{Some};
+    ghost use Rattle.amounts.specs.Faults.{fault_text};
+
+    ghost output = { λ e. Some (fault_text e) };
+
     fn fmt<W: fmt::Write>(&self, f: &mut fmt::Formatter<W>) -> fmt::Result {
         f.write_str(match self {
             Fault::NoPlace => "the table has no such place",
