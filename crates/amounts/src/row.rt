@@ -8,7 +8,10 @@ pub const GAS_LIMIT: u64 = 200_000_000;
 // Charges, in micros.
 pub const CHARGE_LIMIT: u64 = 100_000_000_000_000;
 
-#[derive(Clone, Copy)]
+use std::error::Error;
+use std::fmt;
+
+#[derive(Clone, Copy, Debug, PartialEq, Eq)]
 pub struct Row<const N: usize, const LIMIT: u64> {
     pub figures: [i64; N],
     ghost long: { length figures ≡ N },
@@ -23,10 +26,26 @@ pub type Gas = Row<1, GAS_LIMIT>;
 pub type Charges = Row<5, CHARGE_LIMIT>;
 
 // Why an amount of a kind was not booked.
-#[derive(Clone, Copy)]
+#[derive(Clone, Copy, Debug, PartialEq, Eq)]
 pub enum Fault<const LIMIT: u64> {
     // the table has no such place
     NoPlace,
     // a number of the row would pass the limit
     PastLimit,
 }
+
+impl<const LIMIT: u64> fmt::Display for Fault<LIMIT> {
+    ghost use Rattle.std.specs.Prelude.{Some};
+    ghost use Rattle.amounts.specs.Faults.{fault_text};
+
+    ghost output = { λ e. Some (fault_text e) };
+
+    fn fmt<W: fmt::Write>(&self, f: &mut fmt::Formatter<W>) -> fmt::Result {
+        f.write_str(match self {
+            Fault::NoPlace => "the table has no such place",
+            Fault::PastLimit => "a number would pass its limit",
+        })
+    }
+}
+
+impl<const LIMIT: u64> Error for Fault<LIMIT> {}

@@ -1,6 +1,6 @@
 // Adding to a row, and booking at a place of a lent table.
 ghost use Rattle.std.specs.Prelude.{◌≡◌, ◌^◌, ◌<◌, ◌≤◌, replicate, pos, ◌+ℤ◌, is_ok};
-ghost use Rattle.std.specs.Prelude.{IfOk, IfErr, MatchOption, unsigned_abs};
+ghost use Rattle.std.specs.Prelude.{IfOk, IfErr, MatchResult, unsigned_abs};
 ghost use Rattle.amounts.specs.Rows.{within, sums};
 ghost use Rattle.amounts.specs.Tables.{Booked, rows_of};
 
@@ -14,12 +14,9 @@ impl<const N: usize, const LIMIT: u64> Row<N, LIMIT> {
         ensures refused { IfErr result (λ e. e ≡ Fault.PastLimit) }
     {
         let mut figures = self.figures;
-        let more: &[i64] = more;
-        for i in 0..N {
-            let Some(sum) = added(figures[i], more[i], LIMIT) else {
-                return Err(Fault::PastLimit);
-            };
-            figures[i] = sum;
+        // Kept: tried; the proof did not close: after `iter_mut().zip(..)` nothing is known of what was written.
+        for (i, more) in more.iter().enumerate() {
+            figures[i] = added(figures[i], *more)?;
         }
         Ok(Row { figures })
     }
@@ -33,26 +30,24 @@ pub fn book<const N: usize, const LIMIT: u64>(
 ) -> Result<(), Fault<LIMIT>>
     ensures { Booked LIMIT (rows_of N LIMIT table.old) at more.now result (rows_of N LIMIT table.new) }
 {
-    if at >= table.len() {
-        return Err(Fault::NoPlace);
-    }
-    table[at] = table[at].plus(more)?;
+    let row = table.get(at).ok_or(Fault::NoPlace)?;
+    table[at] = row.plus(more)?;
     Ok(())
 }
 
 // One place: what is had and what is added, if that is within the limit.
-fn added(have: i64, more: i64, limit: u64) -> Option<i64>
-    requires { limit < 2 ^ 62 }
-    ensures { MatchOption result (limit < unsigned_abs (have +ℤ more))
-        (λ s. (s ≡ have +ℤ more) × (unsigned_abs s ≤ limit)) }
+fn added<const LIMIT: u64>(have: i64, more: i64) -> Result<i64, Fault<LIMIT>>
+    requires { LIMIT < 2 ^ 62 }
+    ensures { MatchResult result (λ s. (s ≡ have +ℤ more) × (unsigned_abs s ≤ LIMIT))
+        (λ e. (e ≡ Fault.PastLimit) × (LIMIT < unsigned_abs (have +ℤ more))) }
 {
-    let sum = have.checked_add(more)?;
-    if sum.unsigned_abs() > limit {
-        return None;
+    match have.checked_add(more) {
+        Some(sum) if sum.unsigned_abs() <= LIMIT => Ok(sum),
+        _ => Err(Fault::PastLimit),
     }
-    Some(sum)
 }
 
+// Kept: a rule of the project needs it: one `none` for both would ask `LIMIT < 2 ^ 62` of its callers.
 impl Gas {
     pub fn none() -> Gas
         ensures { result.figures ≡ replicate 1 (pos 0) }

@@ -2,7 +2,7 @@
 ghost use Rattle.std.specs.Prelude.{◌≡◌, pos, neg_ℤ, ◌≤ℤ◌, is_some, IfSome};
 ghost use Rattle.balancing.specs.Bands.{is_band};
 
-#[derive(Clone, Copy, Debug)]
+#[derive(Clone, Copy, Debug, PartialEq, Eq)]
 pub struct Edges {
     pub lower: i32,
     pub upper: i32,

@@ -6,10 +6,10 @@ ghost use Rattle.std.proofs.lemmas.Int.{ints};
 ghost use Rattle.balancing.specs.Bounds.{egd_most};
 
 use crate::edges::Edges;
+use crate::extent::Extent;
 use crate::rule::BalancingRule;
-use crate::term::volume;
 
-#[derive(Clone, Copy, Debug)]
+#[derive(Clone, Copy, Debug, PartialEq, Eq)]
 pub struct Egd;
 
 impl BalancingRule for Egd {
@@ -21,8 +21,8 @@ impl BalancingRule for Egd {
 
     ghost outside = { Prim.search rules };
 
-    fn edges(&self, mdv: u32, days: u32) -> Edges {
-        let edge = edge(mdv, days);
+    fn edges(&self, extent: Extent) -> Edges {
+        let edge = edge(extent);
         Edges {
             lower: -edge,
             upper: edge,
@@ -31,11 +31,9 @@ impl BalancingRule for Egd {
 }
 
 // How far the edges lie from 0.
-fn edge(mdv: u32, days: u32) -> i32
-    ensures { result ≡ pos (egd_edge mdv days) }
+fn edge(extent: Extent) -> i32
+    ensures { result ≡ pos (egd_edge extent.mdv extent.days) }
 {
-    match volume(mdv, days) {
-        Some(volume) => (volume as u64 * 55 / 1_000) as i32,
-        None => 0,
-    }
+    let volume = extent.volume().unwrap_or(0);
+    (u64::from(volume) * 55 / 1_000) as i32
 }

@@ -3,17 +3,17 @@
 
 mod edges;
 mod egd;
+mod extent;
 mod north;
 mod rule;
 mod settling;
 mod split;
-mod term;
 #[cfg(test)]
 mod tests;
 
 pub use edges::Edges;
 pub use egd::Egd;
+pub use extent::Extent;
 pub use north::North;
 pub use rule::BalancingRule;
 pub use settling::settle;
-pub use term::volume;

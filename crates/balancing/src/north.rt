@@ -3,9 +3,10 @@ ghost use Rattle.balancing.specs.Rules.{north_band};
 ghost use Rattle.std.proofs.Common.{rules};
 
 use crate::edges::Edges;
+use crate::extent::Extent;
 use crate::rule::BalancingRule;
 
-#[derive(Clone, Copy, Debug)]
+#[derive(Clone, Copy, Debug, PartialEq, Eq)]
 pub struct North;
 
 impl BalancingRule for North {
@@ -15,7 +16,7 @@ impl BalancingRule for North {
 
     ghost outside = { Prim.search rules };
 
-    fn edges(&self, _mdv: u32, _days: u32) -> Edges {
+    fn edges(&self, _extent: Extent) -> Edges {
         Edges { lower: 0, upper: 0 }
     }
 }

@@ -5,13 +5,14 @@ ghost use Rattle.balancing.specs.Edges.{band_of};
 ghost use Rattle.balancing.specs.Terms.{is_term};
 
 use crate::edges::Edges;
+use crate::extent::Extent;
 
 pub trait BalancingRule {
     // What the rule means: for a term's MDV and days, a band.
     ghost band: { Self → ℕ → ℕ → Band };
 
-    fn edges(&self, mdv: u32, days: u32) -> Edges
-        ensures { band_of result ≡ band self.now mdv days };
+    fn edges(&self, extent: Extent) -> Edges
+        ensures { band_of result ≡ band self.now extent.mdv extent.days };
 
     // The lower edge does not lie above the upper one, and both lie within ±200,000,000.
     ghost sound: { (s : Self) (mdv days : ℕ) → Sound (band s mdv days) };

@@ -2,12 +2,13 @@
 ghost use Rattle.balancing.specs.Bills.{Split};
 ghost use Rattle.balancing.specs.Worked.{WorkedEdges};
 
+use crate::extent::Extent;
 use crate::rule::BalancingRule;
 
 // The volumes carried and billed of a balance, by the rule's edges for the term.
-pub fn settle<R: BalancingRule>(rule: &R, mdv: u32, days: u32, balance: i32) -> (i32, i64)
-    ensures split { Split (R.band rule.now mdv days) balance result.0 result.1 }
+pub fn settle<R: BalancingRule>(rule: &R, extent: Extent, balance: i32) -> (i32, i64)
+    ensures split { Split (R.band rule.now extent.mdv extent.days) balance result.0 result.1 }
     ensures worked { WorkedEdges }
 {
-    rule.edges(mdv, days).split(balance)
+    rule.edges(extent).split(balance)
 }

@@ -1,3 +1,4 @@
+pub mod Digits
 pub mod Firsts
 pub mod Found
 pub mod Guess

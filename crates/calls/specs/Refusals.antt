@@ -1,7 +1,9 @@
 -- The refusals' numbers and values.
 use Rattle.std.specs.Prelude.{ℕ, cond, Some, None, Option, ◌==◌}
+use Rattle.std.specs.Option.{option_map_or}
 use Rattle.amounts.specs.declared.row.Fault.{Fault}
 use Rattle.amounts.specs.declared.row.Fault.TheVariants.{NoPlace, PastLimit}
+use Rattle.prices.specs.declared.source.Lack.{Lack}
 use Rattle.calls.specs.declared.refusal.Refusal.{Refusal}
 use Rattle.calls.specs.declared.refusal.Refusal.TheVariants.{BadWord, LastDay, NoTerm, WrongStatus}
 use Rattle.calls.specs.declared.refusal.Refusal.TheVariants.{OutOfRange, Full, Overlap, Untimely}
@@ -21,20 +23,14 @@ number_of ChargeLimit = 10
 number_of (Lacking l) = 11
 number_of NoRoom = 19
 
+-- the lack of a price, where that is why
+abbrev pub lack_of : Refusal → Option Lack
+lack_of (Lacking l) = Some l
+lack_of _ = None
+
 -- the day that a price is lacking for, and 0 at any other refusal
 abbrev pub lacking_day : Refusal → ℕ
-lacking_day BadWord = 0
-lacking_day LastDay = 0
-lacking_day NoTerm = 0
-lacking_day WrongStatus = 0
-lacking_day OutOfRange = 0
-lacking_day Full = 0
-lacking_day Overlap = 0
-lacking_day Untimely = 0
-lacking_day GasLimit = 0
-lacking_day ChargeLimit = 0
-lacking_day (Lacking l) = l.day
-lacking_day NoRoom = 0
+lacking_day r = option_map_or (λ (l : Lack). l.day) (lack_of r) 0
 
 -- The refusal of a number; the day is of use to a lacking price alone.
 abbrev pub refusal_at : ℕ → ℕ → Option Refusal

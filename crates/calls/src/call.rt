@@ -1,32 +1,21 @@
 // The calls, what each answers, and a statement's figures.
+use crate::arguments::{Opening, Posting};
 use crate::refusal::Refusal;
 use crate::status::Status;
 
-#[derive(Clone, Copy)]
+#[derive(Clone, Copy, Debug, PartialEq, Eq)]
 pub enum Call {
     // turns to the next day
     Day,
     // opens a term
-    Open {
-        pool: u32,
-        point: u32,
-        mdv: u32,
-        first: u32,
-        last: u32,
-    },
+    Open(Opening),
     // books a term's next unposted day
-    Post {
-        term: u32,
-        delivered: u32,
-        consumed: u32,
-    },
+    Post(Posting),
     // states a term
-    Statement {
-        term: u32,
-    },
+    Statement { term: u32 },
 }
 
-#[derive(Clone, Copy)]
+#[derive(Clone, Copy, Debug, PartialEq, Eq)]
 pub enum Answer {
     Done(u32),
     Stated(Stated),
@@ -34,7 +23,7 @@ pub enum Answer {
 }
 
 // A term as a statement has it: volumes in m³, lines in micros.
-#[derive(Clone, Copy)]
+#[derive(Clone, Copy, Debug, PartialEq, Eq)]
 pub struct Stated {
     pub term: u32,
     pub pool: u32,

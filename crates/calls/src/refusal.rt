@@ -1,13 +1,15 @@
 // The refusals: each with its number and its rule's sentence, in one table.
 ghost use Rattle.std.specs.Prelude.{◌≡◌};
-ghost use Rattle.calls.specs.Refusals.{number_of, lacking_day, refusal_at};
+ghost use Rattle.calls.specs.Refusals.{number_of, lack_of, refusal_at};
 ghost use Rattle.calls.specs.declared.refusal.Refusal.TheVariants.{Lacking};
 ghost use Rattle.calls.specs.Refusals.{gas_refusal, charge_refusal};
 
 use amounts::{CHARGE_LIMIT, Fault, GAS_LIMIT};
 use prices::Lack;
+use std::error::Error;
+use std::fmt;
 
-#[derive(Clone, Copy)]
+#[derive(Clone, Copy, Debug, PartialEq, Eq)]
 pub enum Refusal {
     BadWord,
     LastDay,
@@ -24,7 +26,7 @@ pub enum Refusal {
 }
 
 // A refusal's number and its rule's sentence.
-#[derive(Clone, Copy)]
+#[derive(Clone, Copy, Debug)]
 pub struct Rule {
     pub number: u32,
     pub sentence: &'static str,
@@ -38,6 +40,7 @@ fn stated(number: u32, sentence: &'static str) -> Rule
 
 impl Refusal {
     // The refusal of a number, if there is one; the day is of use to a lacking price alone.
+    // Kept: the new form is no plainer: TryFrom would take the two figures as a pair, without their names.
     pub fn from_number(number: u32, day: u32) -> Option<Refusal>
         ensures { result ≡ refusal_at number day }
     {
@@ -77,16 +80,26 @@ impl Refusal {
         }
     }
 
-    // The day that a price is lacking for, and 0 at any other refusal.
-    pub fn lacking_day(&self) -> u32
-        ensures { result ≡ lacking_day self.now }
+    // The lack of a price, where that is why.
+    pub fn lack(&self) -> Option<Lack>
+        ensures { result ≡ lack_of self.now }
     {
         match self {
-            Refusal::Lacking(lack) => lack.day,
-            _ => 0,
+            Refusal::Lacking(lack) => Some(*lack),
+            _ => None,
         }
     }
 }
+
+// A refusal is written as its number and its sentence.
+impl fmt::Display for Refusal {
+    fn fmt<W: fmt::Write>(&self, f: &mut fmt::Formatter<W>) -> fmt::Result {
+        let Rule { number, sentence } = self.rule();
+        write!(f, "{number}: {sentence}")
+    }
+}
+
+impl Error for Refusal {}
 
 impl From<Fault<GAS_LIMIT>> for Refusal {
     ghost from_gives = { λ e r. r ≡ gas_refusal e };

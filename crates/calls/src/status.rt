@@ -1,34 +1,47 @@
-// A term's status.
-ghost use Rattle.std.specs.Prelude.{◌≡◌};
+// A term's status, with its number.
+ghost use Rattle.std.specs.Prelude.{◌≡◌, IfErr};
+ghost use Rattle.std.specs.Result.{result_ok};
 ghost use Rattle.calls.specs.Statuses.{status_number, status_at};
 
-#[derive(Clone, Copy)]
+use crate::numbers::UnknownNumber;
+use std::fmt;
+
+#[derive(Clone, Copy, Debug, PartialEq, Eq)]
 pub enum Status {
-    Waiting,
-    Active,
-    Expired,
+    Waiting = 0,
+    Active = 1,
+    Expired = 2,
 }
 
-impl Status {
-    // The status of a number, if there is one.
-    pub fn from_number(number: u32) -> Option<Status>
-        ensures { result ≡ status_at number }
-    {
+impl From<Status> for u32 {
+    ghost from_gives = { λ s n. n ≡ status_number s };
+
+    fn from(status: Status) -> u32 {
+        status as u32
+    }
+}
+
+impl TryFrom<u32> for Status {
+    type Error = UnknownNumber;
+
+    ghost try_from_gives = { λ n r. (result_ok r ≡ status_at n) × IfErr r (λ e. e.0 ≡ n) };
+
+    fn try_from(number: u32) -> Result<Status, UnknownNumber> {
         match number {
-            0 => Some(Status::Waiting),
-            1 => Some(Status::Active),
-            2 => Some(Status::Expired),
-            _ => None,
+            0 => Ok(Status::Waiting),
+            1 => Ok(Status::Active),
+            2 => Ok(Status::Expired),
+            _ => Err(UnknownNumber(number)),
         }
     }
+}
 
-    pub fn number(&self) -> u32
-        ensures { result ≡ status_number self.now }
-    {
-        match self {
-            Status::Waiting => 0,
-            Status::Active => 1,
-            Status::Expired => 2,
-        }
+impl fmt::Display for Status {
+    fn fmt<W: fmt::Write>(&self, f: &mut fmt::Formatter<W>) -> fmt::Result {
+        f.write_str(match self {
+            Status::Waiting => "waiting",
+            Status::Active => "active",
+            Status::Expired => "expired",
+        })
     }
 }

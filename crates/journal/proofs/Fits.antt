@@ -4,6 +4,8 @@ use Rattle.std.proofs.Common.{length, get_or, ℤ, pos, nat_abs, Ok, Err, Result
 use Rattle.std.proofs.lemmas.Bool.Decides.{nat_tests}
 use Rattle.std.proofs.lemmas.Bool.{cond_both, lt-ltb}
 use Rattle.amounts.specs.Rows.{within}
+use Rattle.calls.specs.declared.arguments.Opening.{Opening}
+use Rattle.calls.specs.declared.arguments.Posting.{Posting}
 use Rattle.calls.specs.declared.call.Call.{Call}
 use Rattle.calls.specs.declared.call.Call.TheVariants.{Day, Open, Post, Statement}
 use Rattle.ledger.specs.Book.{Term, missing, term_at}
@@ -66,15 +68,14 @@ module _ (t : Tables) (m : Meaning) (fair : FairSource m.overrun) where
   day_fits : Fit Day (step m (view t) Day)
   day_fits = record { fits = grind (arith, nat_tests, t.ends) }
 
-  open_fits : (pool point mdv first last : ℕ)
-      → Fit (Open pool point mdv first last) (step m (view t) (Open pool point mdv first last))
-  open_fits pool point mdv first last = record { fits = grind (arith, nat_tests, term_count t, t.few) }
+  open_fits : (o : Opening) → Fit (Open o) (step m (view t) (Open o))
+  open_fits o = record { fits = grind (arith, nat_tests, term_count t, t.few) }
 
-  post_fits : (n d c : ℕ) → Fit (Post n d c) (step m (view t) (Post n d c))
-  post_fits n d c =
-      cond_both (missing (view t) n) _ _ (Fit (Post n d c)) (λ _. record { fits = refl }) (λ found.
-      let b = term_holds t Bounds bounded n found in
-      let lack = lack_small n d b in
+  post_fits : (p : Posting) → Fit (Post p) (step m (view t) (Post p))
+  post_fits p =
+      cond_both (missing (view t) p.term) _ _ (Fit (Post p)) (λ _. record { fits = refl }) (λ found.
+      let b = term_holds t Bounds bounded p.term found in
+      let lack = lack_small p.term p.delivered b in
       record { fits = grind (arith, nat_tests, found, b.ends, lack) })
 
   statement_fits : (n : ℕ) → Fit (Statement n) (step m (view t) (Statement n))
@@ -87,6 +88,6 @@ module _ (t : Tables) (m : Meaning) (fair : FairSource m.overrun) where
 
 pub answers_fit_words : AnswersFit
 answers_fit_words t m fair Day = (day_fits t m fair).fits
-answers_fit_words t m fair (Open pool point mdv first last) = (open_fits t m fair pool point mdv first last).fits
-answers_fit_words t m fair (Post n d c) = (post_fits t m fair n d c).fits
+answers_fit_words t m fair (Open o) = (open_fits t m fair o).fits
+answers_fit_words t m fair (Post p) = (post_fits t m fair p).fits
 answers_fit_words t m fair (Statement n) = (statement_fits t m fair n).fits

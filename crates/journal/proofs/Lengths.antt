@@ -33,6 +33,6 @@ post_two q s term delivered consumed = grind arith
 pub call_short : (m : Meaning) (s : State) (call : Call) → ((n : ℕ) → call ≡ Statement n → ⊥)
     → 2 ≡ length (answer_words (step m s call).answer)
 call_short m s Day h = day_two s
-call_short m s (Open pool point mdv first last) h = open_two s pool point mdv first last
-call_short m s (Post term delivered consumed) h = post_two m.overrun s term delivered consumed
+call_short m s (Open o) h = open_two s o.pool o.point o.mdv o.first o.last
+call_short m s (Post p) h = post_two m.overrun s p.term p.delivered p.consumed
 call_short m s (Statement n) h = absurd (h n refl)

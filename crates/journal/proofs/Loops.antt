@@ -66,21 +66,18 @@ module _ (m : Meaning) (words : List ℕ) (start : State) (before answers : List
       rw (going.so_far, more, front answers a written going.inside, append_assoc, drop-drop read.1 place words, left)
 
   -- the same, by what reading, the call and the writing ensure
-  pub step_on : (call : Call) (after len : ℕ) (answer : Answer) (t : State) (encoded out : List ℕ)
-      → place < length words → Used words place call after → Meets (step m s call) answer t
-      → take len encoded ≡ answer_words answer → len ≡ length (answer_words answer) → len ≤ length before - written
-      → out ≡ take written answers ++ (take len encoded ++ drop (written + len) answers)
-      → written + len ≤ length out → Going m words start before out (written + len) after t
-  step_on call after len answer t encoded out h u met e l fits o inside =
-      let a = answer_words (step m s call).answer in
-      let n : len ≡ length a = l ∙ ap (λ x. length (answer_words x)) met.answers in
-      let p : out ≡ with_answer answers written a = rw (← n, ← met.answers, ← e) o in
+  pub step_on : (call : Call) (after : ℕ) (answer : Answer) (t : State) (encoded out : List ℕ) → place < length words
+      → Used words place call after → Meets (step m s call) answer t → encoded ≡ answer_words answer
+      → length encoded ≤ length before - written → out ≡ with_answer answers written encoded
+      → written + length encoded ≤ length out → Going m words start before out (written + length encoded) after t
+  step_on call after answer t encoded out h u met e fits o inside =
+      let n : encoded ≡ answer_words (step m s call).answer = e ∙ ap answer_words met.answers in
       record {
-        so_far = rw (p, n, u.moved, met.leaves) (goes_on (call, u.used) h u.read u.some (rw n at fits));
-        behind = rw (p, n) (back answers a written going.inside
-            ∙ sym (drop-drop (length a) written answers)
-            ∙ ap (drop (length a)) going.behind
-            ∙ drop-drop (length a) written before);
+        so_far = rw (o, n, u.moved, met.leaves) (goes_on (call, u.used) h u.read u.some (rw n at fits));
+        behind = rw o (back answers encoded written going.inside
+            ∙ sym (drop-drop (length encoded) written answers)
+            ∙ ap (drop (length encoded)) going.behind
+            ∙ drop-drop (length encoded) written before);
         inside = inside;
       }
 

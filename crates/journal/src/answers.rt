@@ -6,7 +6,6 @@ ghost use Rattle.words.specs.Writing.{answer_words};
 
 use calls::Call;
 use ledger::Tables;
-use words::Encoded;
 
 // The words of the answer that a call will get.
 pub(crate) fn answer_len(tables: &Tables, call: &Call) -> usize
@@ -28,13 +27,10 @@ fn statement_len(tables: &Tables, term: u32) -> usize
     }
 }
 
-// Writes an answer into the memory from a place on.
-pub(crate) fn put(answers: &mut [u32], at: usize, answer: &Encoded)
-    requires room { at + answer.now.len ≤ length answers.old }
-    requires whole { answer.now.len ≤ 18 }
-    ensures { answers.new ≡
-        take at answers.old
-        ++ (take answer.now.len answer.now.words ++ drop (at + answer.now.len) answers.old) }
+// Writes an answer's words into the memory from a place on.
+pub(crate) fn put(answers: &mut [u32], at: usize, words: &[u32])
+    requires { at + length words.now ≤ length answers.old }
+    ensures { answers.new ≡ take at answers.old ++ (words.now ++ drop (at + length words.now) answers.old) }
 {
-    answers[at..at + answer.len].copy_from_slice(&answer.words[..answer.len]);
+    answers[at..at + words.len()].copy_from_slice(words);
 }

@@ -28,14 +28,14 @@ pub fn run<Z: RateZone>(ledger: &mut Ledger<Z>, words: &[u32], answers: &mut [u3
         let place = reader.place;
         let call = match reader.call() {
             Ok(call) => call,
-            Err(place) => return stopped(written, Refusal::BadWord, place),
+            Err(misread) => return stopped(written, Refusal::BadWord, misread.place),
         };
         if answers.len() - written < answer_len(&ledger.tables, &call) {
             return stopped(written, Refusal::NoRoom, place);
         }
         let answer = encode(&ledger.apply(call));
         put(answers, written, &answer);
-        written += answer.len;
+        written += answer.len();
     }
     Ran {
         written,

@@ -24,11 +24,11 @@ kept_by s (x ∷ rs) o never = cond_both x.0 _ _ (Kept s) (λ _. λ r e. refl) (
 
 step_keeps : (m : Meaning) (s : State) (c : Call) → Kept s (step m s c)
 step_keeps m s Day = kept_by s (day_refusals s) (day_done s) (λ r e. cc)
-step_keeps m s (Open pool point mdv first last) =
-    kept_by s (open_refusals s pool point mdv first last) (open_done s pool point mdv first last) (λ r e. cc)
-step_keeps m s (Post term delivered consumed) =
-    kept_by s (post_refusals m.overrun s term delivered consumed) (post_done m.overrun s term delivered consumed)
+step_keeps m s (Open o) =
+    kept_by s (open_refusals s o.pool o.point o.mdv o.first o.last) (open_done s o.pool o.point o.mdv o.first o.last)
     (λ r e. cc)
+step_keeps m s (Post p) = kept_by s (post_refusals m.overrun s p.term p.delivered p.consumed)
+    (post_done m.overrun s p.term p.delivered p.consumed) (λ r e. cc)
 step_keeps m s (Statement term) = kept_by s (statement_refusals s term) (statement_done s term) (λ r e. cc)
 
 -- what meets the book's step keeps the state where it is refused

@@ -1,7 +1,7 @@
 -- The plain book: a state of its own, and what can be read off it. It never sees a table of the code.
 use Rattle.std.specs.Prelude.{ℕ, ◌-◌, Bool, cond, ◌&&◌, ◌||◌, List, [], length}
 use Rattle.std.specs.Prelude.{replicate, ℤ, pos, ◌==◌, nat_le, nat_lt, slice_index_or}
-use Rattle.ledger.specs.declared.allowances.Allowances.{Allowances}
+use Rattle.prices.specs.declared.by_point.ByPoint.{ByPoint}
 use Rattle.prices.specs.declared.point.Point.{Point}
 use Rattle.prices.specs.declared.point.Point.TheVariants.{Western}
 use Rattle.calls.specs.declared.status.Status.{Status}
@@ -18,6 +18,10 @@ pub record Term : Type 0 where
   pub next : ℕ
   pub balance : ℤ
   pub lines : List ℤ
+
+-- The volumes that may be suspended on a day, for each point.
+abbrev pub Allowances : Type 0
+Allowances = ByPoint ℕ
 
 -- The day, the suspension allowances of the three points, and the terms in the order of their numbers, from 1.
 pub record State : Type 0 where

@@ -196,6 +196,6 @@ pub record Meaning : Type 0 where
 -- The book's step: a call is one row.
 abbrev pub step : Meaning → State → Call → Outcome
 step m s Day = day_call s
-step m s (Open pool point mdv first last) = open_call s pool point mdv first last
-step m s (Post term delivered consumed) = post_call m.overrun s term delivered consumed
+step m s (Open o) = open_call s o.pool o.point o.mdv o.first o.last
+step m s (Post p) = post_call m.overrun s p.term p.delivered p.consumed
 step m s (Statement term) = statement_call s term

@@ -1,7 +1,8 @@
 -- What a ledger may be made with.
-use Rattle.std.specs.Prelude.{◌≡◌, Bool, true, false, ◌&&◌, nat_le}
+use Rattle.std.specs.Prelude.{◌≡◌, ℕ, Bool, true, false, ◌&&◌, List, ◌++◌, codes, decimal, nat_le}
+use Rattle.calls.specs.Refusals.{number_of}
 use Rattle.calls.specs.declared.refusal.Refusal.TheVariants.{OutOfRange}
-use Rattle.ledger.specs.declared.allowances.Allowances.{Allowances}
+use Rattle.ledger.specs.Book.{Allowances}
 use Rattle.ledger.specs.declared.failing.NotMade.{NotMade}
 use Rattle.ledger.specs.declared.failing.NotMade.TheVariants.{Refused, NoMemory}
 
@@ -13,3 +14,8 @@ allowed a = nat_le a.western 10000000 && (nat_le a.dawn 10000000 && nat_le a.ont
 abbrev pub Unmade : Allowances → NotMade → Type 0
 Unmade allowances (Refused r) = (r ≡ OutOfRange) × (allowed allowances ≡ false)
 Unmade allowances NoMemory = allowed allowances ≡ true
+
+-- What is written of a ledger that was not made.
+abbrev pub not_made_text : NotMade → List ℕ
+not_made_text (Refused r) = codes "refused with " ++ decimal (number_of r)
+not_made_text NoMemory = codes "out of memory"

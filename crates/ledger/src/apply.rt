@@ -6,19 +6,21 @@ ghost use Rattle.ledger.specs.View.{view};
 
 use crate::books::Ledger;
 use crate::rate_zone::RateZone;
-use calls::{Answer, Call, Refusal};
+use calls::{Answer, Call, Posting, Refusal};
 
 impl<Z: RateZone> Ledger<Z> {
     // Books a term's next unposted day and answers it.
-    fn post(&mut self, term: u32, delivered: u32, consumed: u32) -> Result<u32, Refusal>
+    fn post(&mut self, day: Posting) -> Result<u32, Refusal>
         ensures call { Meets
-            (post_call (Z.means self.old.zone).overrun (view self.old.tables) term delivered consumed)
+            (post_call (Z.means self.old.zone).overrun (view self.old.tables) day.term day.delivered day.consumed)
             (answered result) (view self.new.tables) }
         ensures zone { self.new.zone ≡ self.old.zone }
     {
-        let posting = self.tables.plan_post(term, delivered, consumed)?;
-        let owed = posting.owed(&self.zone)?;
-        self.tables.book_post(posting, owed)
+        let plan = self
+            .tables
+            .plan_post(day.term, day.delivered, day.consumed)?;
+        let owed = plan.owed(&self.zone)?;
+        self.tables.book_post(plan, owed)
     }
 
     // The call, one row for each.
@@ -30,18 +32,8 @@ impl<Z: RateZone> Ledger<Z> {
     {
         Ok(match call {
             Call::Day => Answer::Done(self.tables.turn()?),
-            Call::Open {
-                pool,
-                point,
-                mdv,
-                first,
-                last,
-            } => Answer::Done(self.tables.open(pool, point, mdv, first, last)?),
-            Call::Post {
-                term,
-                delivered,
-                consumed,
-            } => Answer::Done(self.post(term, delivered, consumed)?),
+            Call::Open(opening) => Answer::Done(self.tables.open(opening)?),
+            Call::Post(posting) => Answer::Done(self.post(posting)?),
             Call::Statement { term } => Answer::Stated(self.tables.state(term)?),
         })
     }

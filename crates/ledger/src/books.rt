@@ -1,7 +1,7 @@
 // The ledger: the tables of a rate zone.
 use crate::tables::Tables;
 
-#[derive(Drop)]
+#[derive(Debug, Drop)]
 pub struct Ledger<Z> {
     pub tables: Tables,
     pub zone: Z,

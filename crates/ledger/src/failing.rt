@@ -6,8 +6,10 @@ ghost use Rattle.ledger.specs.declared.failing.NotMade.TheVariants.{Refused, NoM
 use calls::Refusal;
 use prices::OutOfRange;
 use std::alloc::AllocError;
+use std::error::Error;
+use std::fmt;
 
-#[derive(Clone, Copy)]
+#[derive(Clone, Copy, Debug, PartialEq, Eq)]
 pub enum NotMade {
     Refused(Refusal),
     NoMemory,
@@ -28,3 +30,19 @@ impl From<OutOfRange> for NotMade {
         NotMade::Refused(Refusal::OutOfRange)
     }
 }
+
+impl fmt::Display for NotMade {
+    ghost use Rattle.std.specs.Prelude.{Some};
+    ghost use Rattle.ledger.specs.Making.{not_made_text};
+
+    ghost output = { λ e. Some (not_made_text e) };
+
+    fn fmt<W: fmt::Write>(&self, f: &mut fmt::Formatter<W>) -> fmt::Result {
+        match self {
+            NotMade::Refused(refusal) => write!(f, "refused with {}", refusal.rule().number),
+            NotMade::NoMemory => f.write_str("out of memory"),
+        }
+    }
+}
+
+impl Error for NotMade {}

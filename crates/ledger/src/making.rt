@@ -11,12 +11,11 @@ use crate::tables::Tables;
 use calls::Refusal;
 use std::alloc::{AllocError, Global};
 
-impl Allowances {
-    fn in_range(&self) -> bool
-        ensures { result ≡ allowed self.now }
-    {
-        self.western <= 10_000_000 && self.dawn <= 10_000_000 && self.ontario <= 10_000_000
-    }
+// Whether no allowance is above 10,000,000.
+fn in_range(a: Allowances) -> bool
+    ensures { result ≡ allowed a }
+{
+    a.western <= 10_000_000 && a.dawn <= 10_000_000 && a.ontario <= 10_000_000
 }
 
 impl Tables {
@@ -44,7 +43,7 @@ impl<Z: Drop> Ledger<Z> {
             (λ l. (allowed allowances ≡ true) × (view l.tables ≡ new_book allowances) × (l.zone ≡ zone))
             (Unmade allowances) }
     {
-        if !allowances.in_range() {
+        if !in_range(allowances) {
             return Err(NotMade::Refused(Refusal::OutOfRange));
         }
         let tables = Tables::new(heap, allowances)?;

@@ -12,19 +12,26 @@ ghost use Rattle.ledger.specs.View.{view, entry, clashes};
 use crate::tables::Tables;
 use crate::term::Term;
 use amounts::{Charges, Gas};
-use calls::Refusal;
+use calls::{Opening, Refusal};
 use prices::Point;
 
 impl Term {
     // A term as it is opened, if its figures are in range.
-    fn opened(today: u32, pool: u32, point: u32, mdv: u32, first: u32, last: u32) -> Option<Term>
+    fn opened(today: u32, o: Opening) -> Option<Term>
         requires { 1 ≤ today }
-        ensures test { is_some result ≡ in_range today pool point mdv first last }
+        ensures test { is_some result ≡ in_range today o.pool o.point o.mdv o.first o.last }
         ensures made { IfSome result (λ t.
             entry t (replicate 1 (pos 0)) (replicate 5 (pos 0))
-            ≡ opened pool (unwrap_or (point_at point) Western) mdv first last) }
+            ≡ opened o.pool (unwrap_or (point_at o.point) Western) o.mdv o.first o.last) }
     {
-        let point = Point::at(point)?;
+        let Opening {
+            pool,
+            mdv,
+            first,
+            last,
+            ..
+        } = o;
+        let point = Point::try_from(o.point).ok()?;
         if pool < 1 || pool > 99_999 || mdv < 1 || mdv > 500_000 {
             return None;
         }
@@ -59,20 +66,13 @@ fn overlaps(terms: &[Term], pool: u32, first: u32, last: u32) -> bool
 impl Tables {
     // Opens a term and answers its number.
     #[tactic(auto, using(crate::proofs::Entries::told))]
-    pub(crate) fn open(
-        &mut self,
-        pool: u32,
-        point: u32,
-        mdv: u32,
-        first: u32,
-        last: u32,
-    ) -> Result<u32, Refusal>
-        ensures { Meets (open_call (view self.old) pool point mdv first last) (answered result) (view self.new) }
+    pub(crate) fn open(&mut self, o: Opening) -> Result<u32, Refusal>
+        ensures { Meets
+            (open_call (view self.old) o.pool o.point o.mdv o.first o.last)
+            (answered result) (view self.new) }
     {
-        let Some(term) = Term::opened(self.day, pool, point, mdv, first, last) else {
-            return Err(Refusal::OutOfRange);
-        };
-        if overlaps(&self.terms, pool, first, last) {
+        let term = Term::opened(self.day, o).ok_or(Refusal::OutOfRange)?;
+        if overlaps(&self.terms, o.pool, o.first, o.last) {
             return Err(Refusal::Overlap);
         }
         if self.terms.len() >= 64 {

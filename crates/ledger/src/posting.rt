@@ -1,7 +1,7 @@
 // A posting whose first tests are passed: the term and its place, what was delivered, and what the day adds to its gas.
 use crate::term::Term;
 
-#[derive(Clone, Copy)]
+#[derive(Clone, Copy, Debug, PartialEq, Eq)]
 pub struct Posting {
     pub at: usize,
     pub term: Term,

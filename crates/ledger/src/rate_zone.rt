@@ -6,7 +6,7 @@ ghost use Rattle.balancing.specs.Terms.{is_term};
 ghost use Rattle.ledger.specs.Calls.{Meaning};
 ghost use Rattle.ledger.specs.Laws.{FairMeaning};
 
-use balancing::Edges;
+use balancing::{Edges, Extent};
 use prices::{Lack, Point, Span};
 
 pub trait RateZone {
@@ -14,8 +14,8 @@ pub trait RateZone {
     ghost means: { Self → Meaning };
 
     // The edges of a term.
-    fn edges(&self, mdv: u32, days: u32) -> Edges
-        ensures { band_of result ≡ (means self.now).band mdv days };
+    fn edges(&self, extent: Extent) -> Edges
+        ensures { band_of result ≡ (means self.now).band extent.mdv extent.days };
 
     // The overrun price at a point over a span, or the day that lacks one.
     fn overrun(&self, point: Point, span: Span) -> Result<u32, Lack>

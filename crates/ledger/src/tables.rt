@@ -5,7 +5,7 @@ use crate::allowances::Allowances;
 use crate::term::Term;
 use amounts::{Charges, Gas};
 
-#[derive(Drop)]
+#[derive(Debug, Drop)]
 pub struct Tables {
     pub day: u32,
     pub allowances: Allowances,

@@ -2,10 +2,10 @@
 ghost use Rattle.ledger.specs.Meanings.{meaning};
 
 use crate::rate_zone::RateZone;
-use balancing::{BalancingRule, Edges};
+use balancing::{BalancingRule, Edges, Extent};
 use prices::{Lack, Point, PriceSource, Span};
 
-#[derive(Drop)]
+#[derive(Debug, Drop)]
 pub struct Zone<B, O, S, E> {
     pub rule: B,
     pub overrun: O,
@@ -27,8 +27,8 @@ impl<B: BalancingRule, O: PriceSource, S: PriceSource, E: PriceSource> RateZone
       excess = E.fair z.excess;
     } };
 
-    fn edges(&self, mdv: u32, days: u32) -> Edges {
-        self.rule.edges(mdv, days)
+    fn edges(&self, extent: Extent) -> Edges {
+        self.rule.edges(extent)
     }
 
     fn overrun(&self, point: Point, span: Span) -> Result<u32, Lack> {

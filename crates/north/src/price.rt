@@ -2,13 +2,12 @@
 ghost use Rattle.std.specs.Prelude.{◌≡◌};
 ghost use Rattle.north.specs.North.{price_in};
 
+use words::{Kind, is_of, value_of};
+
 // A word's price: a figure of 0 or more, at most 10,000,000.
 pub fn price_of(word: u32) -> Option<u32>
     ensures { result ≡ price_in word }
 {
-    let value = word % 0x1000_0000;
-    if word / 0x1000_0000 == 6 && value <= 10_000_000 {
-        return Some(value);
-    }
-    None
+    let price = value_of(word);
+    (is_of(word, Kind::Figure) && price <= 10_000_000).then_some(price)
 }

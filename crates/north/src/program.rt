@@ -1,5 +1,6 @@
 // A northern journal run from its words, and from its bytes to the bytes of its answers.
-ghost use Rattle.std.specs.Prelude.{◌≡◌, ◌≤◌, IfSome, IfOk, Some};
+ghost use Rattle.std.specs.Prelude.{◌≡◌, ◌≤◌, IfOk, Some, MatchOption};
+ghost use Rattle.std.specs.Option.{ForSome};
 ghost use Rattle.north.specs.North.{no_price, priced_run, north_run, north_words, north_bytes, moved, stop_words};
 
 use crate::output::Output;
@@ -14,16 +15,13 @@ use zones::north_ledger;
 
 // A place in the input is the journal's plus 1.
 fn behind_price(stop: Option<Stop>) -> Option<Stop>
-    requires { IfSome stop (λ s. s.place ≤ 8192) }
+    requires { ForSome stop (λ s. s.place ≤ 8192) }
     ensures { result ≡ moved stop }
 {
-    match stop {
-        Some(stop) => Some(Stop {
-            refusal: stop.refusal,
-            place: stop.place + 1,
-        }),
-        None => None,
-    }
+    stop.map(|stop| Stop {
+        place: stop.place + 1,
+        ..stop
+    })
 }
 
 // Runs a journal under a reference price.
@@ -42,17 +40,23 @@ fn run_priced(heap: Global, price: u32, journal: &[u32]) -> Result<Output, NotMa
     })
 }
 
+// The price in front of a journal, and the journal.
+fn priced(input: &[u32]) -> Option<(u32, &[u32])>
+    ensures { MatchOption result (north_run input.now ≡ no_price)
+        (λ p. north_run input.now ≡ priced_run p.0 p.1.now) }
+{
+    let (first, journal) = input.split_first()?;
+    Some((price_of(*first)?, journal))
+}
+
 // Runs an input: a reference price, and then a journal.
 pub fn run_words(heap: Global, input: &[u32]) -> Result<Output, NotMade>
     ensures { IfOk result (λ o. (o.words.items ≡ (north_run input.now).words) × (o.stop ≡ (north_run input.now).stop)) }
 {
-    if input.is_empty() {
-        return Ok(stopped(heap));
+    match priced(input) {
+        Some((price, journal)) => run_priced(heap, price, journal),
+        None => Ok(stopped(heap)),
     }
-    let Some(price) = price_of(input[0]) else {
-        return Ok(stopped(heap));
-    };
-    run_priced(heap, price, &input[1..])
 }
 
 // No price: stopped at the first word.

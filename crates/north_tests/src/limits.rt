@@ -5,27 +5,23 @@ use std::test::Fail;
 
 // A price, and then so many day calls.
 fn days(heap: Global, count: usize) -> Result<Vec<u32>, Fail> {
-    let mut input = vec![in heap; PRICE]?;
-    for _ in 0..count {
-        input.push(DAY)?;
-    }
+    let mut input = vec![in heap; DAY; count]?;
+    input.insert(0, PRICE)?;
     Ok(input)
 }
 
 #[test]
 fn long_journals(rt: HostRuntime) -> Result<(), Fail> {
     let heap = rt.alloc();
-    answers(&rt, heap, &days(heap, 4096)?, 8190, 0x9000_0002)?;
-    stops(&rt, heap, &days(heap, 4097)?, 19, 4097)?;
-    stops(&rt, heap, &days(heap, 8192)?, 19, 4097)?;
-    stops(&rt, heap, &days(heap, 8193)?, 5, 1)
+    answers(&rt, &days(heap, 4096)?, 8190, 0x9000_0002)?;
+    stops(&rt, &days(heap, 4097)?, 19, 4097)?;
+    stops(&rt, &days(heap, 8192)?, 19, 4097)?;
+    stops(&rt, &days(heap, 8193)?, 5, 1)
 }
 
 #[test]
 fn exact_and_short_memory(rt: HostRuntime) -> Result<(), Fail> {
-    let Ok(mut ledger) = zones::north_ledger(rt.alloc(), 1) else {
-        return Err(Fail::new("no memory"));
-    };
+    let mut ledger = zones::north_ledger(rt.alloc(), 1)?;
     let mut short = [7];
     let ran = journal::run(&mut ledger, &[DAY], &mut short);
     assert_eq!(rt; ran.written, 0);
@@ -44,7 +40,6 @@ fn terms_that_are_not_there(rt: HostRuntime) -> Result<(), Fail> {
     let heap = rt.alloc();
     answers(
         &rt,
-        heap,
         &[PRICE, 0x1000_000A, 0x2000_0000],
         0,
         0x9000_0003,
@@ -54,10 +49,10 @@ fn terms_that_are_not_there(rt: HostRuntime) -> Result<(), Fail> {
         open(&mut input, pool)?;
     }
     input.extend_from_slice(&[0x1000_000A, 0x2000_0041])?;
-    answers(&rt, heap, &input, 126, 0x8000_0040)?;
-    answers(&rt, heap, &input, 128, 0x9000_0003)?;
+    answers(&rt, &input, 126, 0x8000_0040)?;
+    answers(&rt, &input, 128, 0x9000_0003)?;
     open(&mut input, 65)?;
-    answers(&rt, heap, &input, 130, 0x9000_0006)
+    answers(&rt, &input, 130, 0x9000_0006)
 }
 
 #[test]
@@ -66,18 +61,16 @@ fn posting(rt: HostRuntime) -> Result<(), Fail> {
     let mut input = vec![in heap; PRICE]?;
     open(&mut input, 1)?;
     post(&mut input, 1, 0)?;
-    answers(&rt, heap, &input, 2, 0x9000_0008)?;
-    for _ in 0..25 {
-        input.push(DAY)?;
-    }
+    answers(&rt, &input, 2, 0x9000_0008)?;
+    input.extend_from_slice(&[DAY; 25])?;
     post(&mut input, 10_000_001, 0)?;
     for _ in 0..20 {
         post(&mut input, 10_000_000, 0)?;
     }
     post(&mut input, 1, 0)?;
     input.extend_from_slice(&[0x1000_000A, 0x2000_0001])?;
-    answers(&rt, heap, &input, 54, 0x9000_0005)?;
-    answers(&rt, heap, &input, 94, 0x8000_0014)?;
-    answers(&rt, heap, &input, 96, 0x9000_0009)?;
-    answers(&rt, heap, &input, 104, 0x6BEB_C200)
+    answers(&rt, &input, 54, 0x9000_0005)?;
+    answers(&rt, &input, 94, 0x8000_0014)?;
+    answers(&rt, &input, 96, 0x9000_0009)?;
+    answers(&rt, &input, 104, 0x6BEB_C200)
 }

@@ -4,41 +4,33 @@ use std::test::Fail;
 
 #[test]
 fn no_price(rt: HostRuntime) -> Result<(), Fail> {
-    let heap = rt.alloc();
-    stops(&rt, heap, &[], 1, 0)?;
-    stops(&rt, heap, &[DAY], 1, 0)?;
-    stops(&rt, heap, &[0x4002_49F0, DAY], 1, 0)?;
-    stops(&rt, heap, &[0x6098_9681, DAY], 1, 0)?;
-    answers(&rt, heap, &[0x6098_9680, DAY], 0, 0x8000_0002)
+    stops(&rt, &[], 1, 0)?;
+    stops(&rt, &[DAY], 1, 0)?;
+    stops(&rt, &[0x4002_49F0, DAY], 1, 0)?;
+    stops(&rt, &[0x6098_9681, DAY], 1, 0)?;
+    answers(&rt, &[0x6098_9680, DAY], 0, 0x8000_0002)
 }
 
 #[test]
 fn cut_inside_a_word(rt: HostRuntime) -> Result<(), Fail> {
-    let heap = rt.alloc();
-    let output = match north::northrun(heap, &[0xF0, 0x49, 0x02, 0x60, 0x01, 0x00]) {
-        Ok(output) => output,
-        Err(_) => return Err(Fail::new("no memory")),
-    };
+    let output = north::northrun(rt.alloc(), &[0xF0, 0x49, 0x02, 0x60, 0x01, 0x00])?;
     assert!(rt; output.as_slice() == [1, 0, 0, 0x90, 1, 0, 0, 0x20].as_slice());
     Ok(())
 }
 
 #[test]
 fn wrong_unknown_and_missing_words(rt: HostRuntime) -> Result<(), Fail> {
-    let heap = rt.alloc();
-    stops(&rt, heap, &[PRICE, 0x0000_0001], 1, 1)?;
-    stops(&rt, heap, &[PRICE, 0x1000_0000], 1, 1)?;
-    stops(&rt, heap, &[PRICE, 0x1000_000B], 1, 1)?;
+    stops(&rt, &[PRICE, 0x0000_0001], 1, 1)?;
+    stops(&rt, &[PRICE, 0x1000_0000], 1, 1)?;
+    stops(&rt, &[PRICE, 0x1000_000B], 1, 1)?;
     stops(
         &rt,
-        heap,
         &[PRICE, DAY, 0x1000_0003, 0x2000_0001, 0x4000_0001],
         1,
         5,
     )?;
     stops(
         &rt,
-        heap,
         &[
             PRICE,
             DAY,

@@ -1,48 +1,22 @@
 // What the tests share: inputs by their words, and what is looked for in an output.
-use north::{Output, run_words};
-use std::alloc::Global;
-use std::process::Abort;
+use north::run_words;
 use std::test::Fail;
 
 pub const PRICE: u32 = 0x6002_49F0;
 
 pub const DAY: u32 = 0x1000_0001;
 
-// The output of a run.
-fn run(heap: Global, input: &[u32]) -> Result<Output, Fail> {
-    match run_words(heap, input) {
-        Ok(output) => Ok(output),
-        Err(_) => Err(Fail::new("no memory")),
-    }
-}
-
 // The run stops with this number at this place.
-pub fn stops(
-    rt: &impl Abort,
-    heap: Global,
-    input: &[u32],
-    number: u32,
-    place: usize,
-) -> Result<(), Fail> {
-    match run(heap, input)?.stop {
-        Some(stop) => {
-            assert_eq!(rt; stop.refusal.rule().number, number);
-            assert_eq!(rt; stop.place, place);
-            Ok(())
-        }
-        None => Err(Fail::new("read to the end")),
-    }
+pub fn stops(rt: &HostRuntime, input: &[u32], number: u32, place: usize) -> Result<(), Fail> {
+    let stop = run_words(rt.alloc(), input)?.stop.ok_or("read to the end")?;
+    assert_eq!(rt; stop.refusal.rule().number, number);
+    assert_eq!(rt; stop.place, place);
+    Ok(())
 }
 
 // The run is read to its end, and this word stands at this place of the answers.
-pub fn answers(
-    rt: &impl Abort,
-    heap: Global,
-    input: &[u32],
-    at: usize,
-    word: u32,
-) -> Result<(), Fail> {
-    let output = run(heap, input)?;
+pub fn answers(rt: &HostRuntime, input: &[u32], at: usize, word: u32) -> Result<(), Fail> {
+    let output = run_words(rt.alloc(), input)?;
     assert!(rt; output.stop.is_none());
     assert_eq!(rt; output.words.get(at).copied(), Some(word));
     Ok(())

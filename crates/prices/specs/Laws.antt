@@ -2,10 +2,9 @@
 use Rattle.std.specs.Prelude.{◌≡◌, ℕ, ◌<◌, ◌≤◌, true, List, is_some, is_ok, IfOk, Some, None, Ok, Err, Option, Result}
 use Rattle.prices.specs.declared.point.Point.{Point}
 use Rattle.prices.specs.declared.source.Lack.{Lack}
-use Rattle.prices.specs.declared.tolls.Tolls.{Tolls}
 use Rattle.prices.specs.Quotes.{Quote}
 use Rattle.prices.specs.Ends.{daily_quote, monthly_quote}
-use Rattle.prices.specs.Layers.{shared, tolled}
+use Rattle.prices.specs.Layers.{Tolls, shared, tolled}
 use Rattle.prices.specs.Means.{Priced, mean_of}
 
 -- Where a span has an answer, each of its days has a price. Where it lacks one, that day has none, and each day of the

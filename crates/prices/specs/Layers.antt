@@ -1,9 +1,9 @@
 -- Layers: each turns the price beneath it into another, and hands a lack up as it is.
 use Rattle.std.specs.Prelude.{ℕ, ◌+◌, ◌*◌, ◌/◌, min, Bool, ◌&&◌, ℤ, pos, negsuc, ◌+ℤ◌, int_le, nat_le}
 use Rattle.prices.specs.declared.point.Point.{Point}
-use Rattle.prices.specs.declared.point.Point.TheVariants.{Western, Dawn, Ontario}
-use Rattle.prices.specs.declared.tolls.Tolls.{Tolls}
+use Rattle.prices.specs.declared.by_point.ByPoint.{ByPoint}
 use Rattle.prices.specs.Over.{over}
+use Rattle.prices.specs.Points.{at_point}
 use Rattle.prices.specs.Quotes.{Quote}
 
 -- No price is above 10,000,000.
@@ -21,6 +21,10 @@ share_of percent p = capped ((p * percent + 50) / 100)
 abbrev pub shared : ℕ → Quote → Quote
 shared percent q = λ point from to. over (share_of percent) (q point from to)
 
+-- Tolls are a signed figure for each point.
+abbrev pub Tolls : Type 0
+Tolls = ByPoint ℤ
+
 -- A toll is within 1,000,000 of 0, on either side.
 abbrev pub is_toll : ℤ → Bool
 is_toll toll = int_le (negsuc 999999) toll && int_le toll (pos 1000000)
@@ -29,9 +33,7 @@ abbrev pub are_tolls : Tolls → Bool
 are_tolls t = is_toll t.western && (is_toll t.dawn && is_toll t.ontario)
 
 abbrev pub toll_at : Tolls → Point → ℤ
-toll_at t Western = t.western
-toll_at t Dawn = t.dawn
-toll_at t Ontario = t.ontario
+toll_at = at_point
 
 -- A sum below 0 counts as 0.
 abbrev pub at_least_0 : ℤ → ℕ

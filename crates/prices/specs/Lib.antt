@@ -1,5 +1,6 @@
 pub mod Days
 pub mod Ends
+pub mod Lacks
 pub mod Laws
 pub mod Layers
 pub mod Means

@@ -1,17 +1,13 @@
 // The daily end: a price for each day from a starting day on.
 ghost use Rattle.std.specs.Prelude.{◌≡◌, true, is_ok, IfOk, vec_len};
-ghost use Rattle.prices.specs.Ends.{is_daily, daily_price, daily_quote};
+ghost use Rattle.prices.specs.Ends.{is_daily, daily_price};
 ghost use Rattle.std.proofs.Common.{rules, arith};
-ghost use Rattle.prices.specs.Entries.{daily_fair};
-ghost use Rattle.prices.specs.MeansLemmas.{mean_fair};
 
-use crate::days::{DayPrices, mean};
+use crate::days::DayPrices;
 use crate::entry::entry;
-use crate::point::Point;
-use crate::source::{Lack, PriceSource};
-use crate::span::{OutOfRange, Span};
+use crate::refused::OutOfRange;
 
-#[derive(Drop)]
+#[derive(Debug, Drop)]
 pub struct Daily {
     pub start: u32,
     pub prices: Vec<u32>,
@@ -24,7 +20,7 @@ impl Daily {
         ensures test { is_ok result ≡ is_daily start (vec_len prices) }
         ensures made { IfOk result (λ s. (s.start ≡ start) × (s.prices ≡ prices)) }
     {
-        if start < 1 || start > 3653 || prices.len() > 3653 {
+        if !(1..=3653).contains(&start) || prices.len() > 3653 {
             return Err(OutOfRange);
         }
         Ok(Daily { start, prices })
@@ -37,19 +33,6 @@ impl DayPrices for Daily {
     ghost fair = { first_of (Prim.search rules, Prim.grind (arith, Self.row.coded.inj)) };
 
     fn on(&self, day: u32) -> Option<u32> {
-        if day < self.start {
-            return None;
-        }
-        entry(&self.prices, day - self.start)
-    }
-}
-
-impl PriceSource for Daily {
-    ghost quote = { λ s. daily_quote s.start s.prices.items };
-
-    ghost fair = { λ s point from to low forward high. mean_fair _ from to forward (daily_fair s.start s.prices.items) };
-
-    fn price(&self, _point: Point, span: Span) -> Result<u32, Lack> {
-        mean(self, span)
+        entry(&self.prices, day.checked_sub(self.start)?)
     }
 }

@@ -6,13 +6,8 @@ ghost use Rattle.prices.specs.Ends.{entry_at};
 pub(crate) fn entry(prices: &[u32], index: u32) -> Option<u32>
     ensures { result ≡ entry_at prices.now index }
 {
-    let index = index as usize;
-    if index >= prices.len() {
-        return None;
-    }
-    let price = prices[index];
-    if price > 10_000_000 {
-        return None;
-    }
-    Some(price)
+    prices
+        .get(index as usize)
+        .copied()
+        .filter(|&price| price <= 10_000_000)
 }

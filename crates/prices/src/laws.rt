@@ -2,13 +2,11 @@
 ghost use Rattle.prices.specs.Laws.{OneDay, DailyLacks, MonthlyLacks, ShareLacks, TollLacks};
 ghost use Rattle.prices.specs.Worked.{WorkedPrices};
 
-pub fn laws_stand() -> u8
+pub fn laws_stand()
     ensures one_day { OneDay }
     ensures daily_lacks { DailyLacks }
     ensures monthly_lacks { MonthlyLacks }
     ensures share_lacks { ShareLacks }
     ensures toll_lacks { TollLacks }
     ensures worked { WorkedPrices }
-{
-    0
-}
+{}

@@ -1,18 +1,14 @@
 // The monthly end: a price for each month from January 2024 on.
 ghost use Rattle.std.specs.Prelude.{◌≡◌, true, is_ok, IfOk, vec_len};
-ghost use Rattle.prices.specs.Ends.{is_monthly, monthly_price, monthly_quote};
+ghost use Rattle.prices.specs.Ends.{is_monthly, monthly_price};
 ghost use Rattle.std.proofs.Common.{rules, arith};
-ghost use Rattle.prices.specs.Entries.{monthly_fair};
-ghost use Rattle.prices.specs.MeansLemmas.{mean_fair};
 
-use crate::days::{DayPrices, mean};
+use crate::days::DayPrices;
 use crate::entry::entry;
-use crate::point::Point;
-use crate::source::{Lack, PriceSource};
-use crate::span::{OutOfRange, Span};
+use crate::refused::OutOfRange;
 use calendar::month_of;
 
-#[derive(Drop)]
+#[derive(Debug, Drop)]
 pub struct Monthly {
     pub prices: Vec<u32>,
     ghost fair: { is_monthly (vec_len prices) ≡ true },
@@ -38,15 +34,5 @@ impl DayPrices for Monthly {
 
     fn on(&self, day: u32) -> Option<u32> {
         entry(&self.prices, month_of(day)?)
-    }
-}
-
-impl PriceSource for Monthly {
-    ghost quote = { λ s. monthly_quote s.prices.items };
-
-    ghost fair = { λ s point from to low forward high. mean_fair _ from to forward (monthly_fair s.prices.items) };
-
-    fn price(&self, _point: Point, span: Span) -> Result<u32, Lack> {
-        mean(self, span)
     }
 }

@@ -1,34 +1,52 @@
 // The points of receipt.
-ghost use Rattle.std.specs.Prelude.{◌≡◌};
-ghost use Rattle.prices.specs.Points.{point_at, point_number};
+ghost use Rattle.std.specs.Prelude.{◌≡◌, Some};
+ghost use Rattle.std.specs.Result.{result_ok};
+ghost use Rattle.prices.specs.Points.{point_at, point_name, point_number};
 
-#[derive(Clone, Copy, Debug)]
+use crate::refused::OutOfRange;
+use std::fmt;
+
+#[derive(Clone, Copy, Debug, PartialEq, Eq)]
 pub enum Point {
-    Western,
-    Dawn,
-    Ontario,
+    Western = 1,
+    Dawn = 2,
+    Ontario = 3,
 }
 
-impl Point {
-    // The point of a number: 1 Western, 2 Dawn, 3 Ontario, and no other.
-    pub fn at(number: u32) -> Option<Point>
-        ensures { result ≡ point_at number }
-    {
+// The point of a number: 1 Western, 2 Dawn, 3 Ontario, and no other.
+impl TryFrom<u32> for Point {
+    type Error = OutOfRange;
+
+    ghost try_from_gives = { λ number r. result_ok r ≡ point_at number };
+
+    fn try_from(number: u32) -> Result<Self, OutOfRange> {
         match number {
-            1 => Some(Point::Western),
-            2 => Some(Point::Dawn),
-            3 => Some(Point::Ontario),
-            _ => None,
+            1 => Ok(Point::Western),
+            2 => Ok(Point::Dawn),
+            3 => Ok(Point::Ontario),
+            _ => Err(OutOfRange),
         }
     }
+}
 
-    pub fn number(self) -> u32
-        ensures { result ≡ point_number self }
-    {
-        match self {
-            Point::Western => 1,
-            Point::Dawn => 2,
-            Point::Ontario => 3,
-        }
+// The number of a point.
+impl From<Point> for u32 {
+    ghost from_gives = { λ point number. number ≡ point_number point };
+
+    fn from(point: Point) -> u32 {
+        point as u32
+    }
+}
+
+// A point is written as its name.
+impl fmt::Display for Point {
+    ghost output = { λ point. Some (point_name point) };
+
+    fn fmt<W: fmt::Write>(&self, f: &mut fmt::Formatter<W>) -> fmt::Result {
+        f.write_str(match self {
+            Point::Western => "Western",
+            Point::Dawn => "Dawn",
+            Point::Ontario => "Ontario",
+        })
     }
 }

@@ -3,10 +3,11 @@ ghost use Rattle.std.specs.Prelude.{◌≡◌, ◌≤◌, is_ok, IfOk, Ok, nat_l
 ghost use Rattle.std.proofs.Common.{rules, arith};
 
 use crate::point::Point;
+use crate::refused::OutOfRange;
 use crate::source::{Lack, PriceSource};
-use crate::span::{OutOfRange, Span};
+use crate::span::Span;
 
-#[derive(Clone, Copy, Debug)]
+#[derive(Clone, Copy, Debug, PartialEq, Eq)]
 pub struct Reference {
     pub price: u32,
     ghost fair: { price ≤ 10000000 },

@@ -4,10 +4,11 @@ ghost use Rattle.prices.specs.Layers.{is_percent, shared};
 ghost use Rattle.std.proofs.Common.{rules, arith};
 
 use crate::point::Point;
+use crate::refused::OutOfRange;
 use crate::source::{Lack, PriceSource};
-use crate::span::{OutOfRange, Span};
+use crate::span::Span;
 
-#[derive(Drop)]
+#[derive(Debug, Drop)]
 pub struct Share<S> {
     pub percent: u32,
     pub source: S,
@@ -20,7 +21,7 @@ impl<S: Drop> Share<S> {
         ensures test { is_ok result ≡ is_percent percent }
         ensures made { IfOk result (λ s. (s.percent ≡ percent) × (s.source ≡ source)) }
     {
-        if percent < 1 || percent > 300 {
+        if !(1..=300).contains(&percent) {
             return Err(OutOfRange);
         }
         Ok(Share { percent, source })
@@ -34,7 +35,7 @@ impl<S: PriceSource> PriceSource for Share<S> {
 
     fn price(&self, point: Point, span: Span) -> Result<u32, Lack> {
         let price = self.source.price(point, span)?;
-        let share = (price as u64 * self.percent as u64 + 50) / 100;
+        let share = (u64::from(price) * u64::from(self.percent) + 50) / 100;
         Ok(share.min(10_000_000) as u32)
     }
 }

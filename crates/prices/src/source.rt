@@ -5,12 +5,27 @@ ghost use Rattle.prices.specs.declared.point.Point.{Point};
 
 use crate::point::Point;
 use crate::span::Span;
+use std::error::Error;
+use std::fmt;
 
 // A price that a source lacks: the day it is lacking for.
-#[derive(Clone, Copy, Debug)]
+#[derive(Clone, Copy, Debug, PartialEq, Eq)]
 pub struct Lack {
     pub day: u32,
 }
+
+impl fmt::Display for Lack {
+    ghost use Rattle.std.specs.Prelude.{Some};
+    ghost use Rattle.prices.specs.Lacks.{lack_text};
+
+    ghost output = { λ l. Some (lack_text l) };
+
+    fn fmt<W: fmt::Write>(&self, f: &mut fmt::Formatter<W>) -> fmt::Result {
+        write!(f, "no price for day {}", self.day)
+    }
+}
+
+impl Error for Lack {}
 
 pub trait PriceSource {
     // What the source means: for a point and a span of days, a price or a lacking day of the span.

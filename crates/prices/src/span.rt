@@ -2,11 +2,9 @@
 ghost use Rattle.std.specs.Prelude.{◌≡◌, ◌≤◌, true, is_ok, IfOk};
 ghost use Rattle.prices.specs.Days.{is_span};
 
-// A figure outside its range: refusal 5.
-#[derive(Clone, Copy, Debug)]
-pub struct OutOfRange;
+use crate::refused::OutOfRange;
 
-#[derive(Clone, Copy, Debug)]
+#[derive(Clone, Copy, Debug, PartialEq, Eq)]
 pub struct Span {
     pub from: u32,
     pub to: u32,

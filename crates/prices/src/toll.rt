@@ -1,32 +1,22 @@
 // The toll layer: the price beneath and a toll for its point.
 ghost use Rattle.std.specs.Prelude.{◌≡◌, true, is_ok, IfOk};
-ghost use Rattle.prices.specs.Layers.{is_toll, are_tolls, toll_at, tolled};
+ghost use Rattle.prices.specs.Layers.{is_toll, are_tolls, tolled};
 ghost use Rattle.std.proofs.Common.{rules, arith};
 
+use crate::by_point::Tolls;
 use crate::point::Point;
+use crate::refused::OutOfRange;
 use crate::source::{Lack, PriceSource};
-use crate::span::{OutOfRange, Span};
-use crate::tolls::Tolls;
+use crate::span::Span;
 
+// A toll is within 1,000,000 of 0, on either side.
 fn is_toll(toll: i32) -> bool
     ensures { result ≡ is_toll toll }
 {
-    -1_000_000 <= toll && toll <= 1_000_000
+    (-1_000_000..=1_000_000).contains(&toll)
 }
 
-impl Tolls {
-    pub fn at(self, point: Point) -> i32
-        ensures { result ≡ toll_at self point }
-    {
-        match point {
-            Point::Western => self.western,
-            Point::Dawn => self.dawn,
-            Point::Ontario => self.ontario,
-        }
-    }
-}
-
-#[derive(Drop)]
+#[derive(Debug, Drop)]
 pub struct Toll<S> {
     pub tolls: Tolls,
     pub source: S,

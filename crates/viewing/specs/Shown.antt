@@ -13,8 +13,8 @@ abbrev pub day_after : ℕ → Call → Answer → ℕ
 day_after day Day (Done d) = d
 day_after day Day (Stated s) = day
 day_after day Day (Refused r) = day
-day_after day (Open pool point mdv first last) a = day
-day_after day (Post term delivered consumed) a = day
+day_after day (Open o) a = day
+day_after day (Post p) a = day
 day_after day (Statement term) a = day
 
 -- Each entry is the next call of the journal with the next answer, and has the day on which it was made; the day and

@@ -1,14 +1,13 @@
 -- How many of the calls were refused.
-use Rattle.std.specs.Prelude.{ℕ, ◌+◌, List, [], ◌∷◌}
+use Rattle.std.specs.Prelude.{ℕ, Bool, true, false, List, count_by}
 use Rattle.calls.specs.declared.call.Answer.{Answer}
 use Rattle.calls.specs.declared.call.Answer.TheVariants.{Done, Stated, Refused}
 use Rattle.viewing.specs.declared.entry.Entry.{Entry}
 
-abbrev pub refusal : Answer → ℕ
-refusal (Done n) = 0
-refusal (Stated s) = 0
-refusal (Refused r) = 1
+abbrev pub is_refused : Answer → Bool
+is_refused (Done n) = false
+is_refused (Stated s) = false
+is_refused (Refused r) = true
 
 abbrev pub refusals : List Entry → ℕ
-refusals [] = 0
-refusals (e ∷ es) = refusal e.answer + refusals es
+refusals = count_by (λ (e : Entry). is_refused e.answer)

@@ -37,10 +37,7 @@ pub fn read_report(
     let mut asked = Reader::new(journal);
     let mut replies = Reader::new(answers);
     let mut day = 1;
-    'calls: for _ in 0..answers.len() {
-        let Ok(call) = asked.call() else {
-            break;
-        };
+    'calls: while let Ok(call) = asked.call() {
         let Ok(answer) = replies.answer(&call) else {
             break;
         };

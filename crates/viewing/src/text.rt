@@ -3,8 +3,7 @@ use crate::entry::Entry;
 use crate::reading::Report;
 use crate::tally::refusals_in;
 use calendar::date_of;
-use calls::{Answer, Call, Refusal, Stated, Status};
-use journal::Stop;
+use calls::{Answer, Call, Refusal, Stated};
 use prices::Point;
 use std::fmt;
 
@@ -39,20 +38,16 @@ impl fmt::Display for Dollars {
     }
 }
 
-fn point_name(number: u32) -> &'static str {
-    match Point::at(number) {
-        Some(Point::Western) => "Western",
-        Some(Point::Dawn) => "Dawn",
-        Some(Point::Ontario) => "Ontario",
-        None => "no point",
-    }
-}
+// A point of receipt by its number.
+#[derive(Clone, Copy)]
+struct At(pub u32);
 
-fn status_name(status: &Status) -> &'static str {
-    match status {
-        Status::Waiting => "waiting",
-        Status::Active => "active",
-        Status::Expired => "expired",
+impl fmt::Display for At {
+    fn fmt<W: fmt::Write>(&self, f: &mut fmt::Formatter<W>) -> fmt::Result {
+        match Point::try_from(self.0) {
+            Ok(point) => write!(f, "{point}"),
+            Err(_) => f.write_str("no point"),
+        }
     }
 }
 
@@ -64,30 +59,14 @@ impl fmt::Display for Asked {
     fn fmt<W: fmt::Write>(&self, f: &mut fmt::Formatter<W>) -> fmt::Result {
         match self.0 {
             Call::Day => write!(f, "day"),
-            Call::Open {
-                pool,
-                point,
-                mdv,
-                first,
-                last,
-            } => {
-                let point = point_name(point);
-                let first = On(first);
-                let last = On(last);
-                write!(
-                    f,
-                    "open pool {pool} at {point}, MDV {mdv} m³, {first} to {last}"
-                )
+            Call::Open(o) => {
+                let (pool, mdv) = (o.pool, o.mdv);
+                let (point, first, last) = (At(o.point), On(o.first), On(o.last));
+                write!(f, "open pool {pool} at {point}, MDV {mdv} m³, {first} to {last}")
             }
-            Call::Post {
-                term,
-                delivered,
-                consumed,
-            } => {
-                write!(
-                    f,
-                    "post term {term}, delivered {delivered} m³, consumed {consumed} m³"
-                )
+            Call::Post(p) => {
+                let (term, delivered, consumed) = (p.term, p.delivered, p.consumed);
+                write!(f, "post term {term}, delivered {delivered} m³, consumed {consumed} m³")
             }
             Call::Statement { term } => write!(f, "statement of term {term}"),
         }
@@ -104,8 +83,8 @@ impl fmt::Display for Done {
         let day = On(value);
         match self.0 {
             Call::Day => write!(f, "done, it is {day}"),
-            Call::Open { .. } => write!(f, "done, term {value}"),
-            Call::Post { .. } => write!(f, "done for {day}"),
+            Call::Open(_) => write!(f, "done, term {value}"),
+            Call::Post(_) => write!(f, "done for {day}"),
             Call::Statement { .. } => write!(f, "done"),
         }
     }
@@ -117,16 +96,11 @@ struct Because(pub Refusal);
 
 impl fmt::Display for Because {
     fn fmt<W: fmt::Write>(&self, f: &mut fmt::Formatter<W>) -> fmt::Result {
-        let rule = self.0.rule();
-        let number = rule.number;
-        let sentence = rule.sentence;
-        write!(f, "{number}: {sentence}")?;
-        match self.0 {
-            Refusal::Lacking(lack) => {
-                let day = On(lack.day);
-                write!(f, " for {day}")
-            }
-            _ => Ok(()),
+        let refusal = self.0;
+        write!(f, "{refusal}")?;
+        match refusal.lack() {
+            Some(lack) => write!(f, " for {}", On(lack.day)),
+            None => Ok(()),
         }
     }
 }
@@ -139,7 +113,7 @@ impl fmt::Display for Table {
     fn fmt<W: fmt::Write>(&self, f: &mut fmt::Formatter<W>) -> fmt::Result {
         let term = self.0.term;
         let pool = self.0.pool;
-        let status = status_name(&self.0.status);
+        let status = self.0.status;
         let next = On(self.0.next);
         let balance = self.0.balance;
         let offered = self.0.on_offer;
@@ -153,37 +127,30 @@ impl fmt::Display for Table {
     }
 }
 
+// The names of the charge lines.
+const LINES: [&str; 5] = [
+    "1 overrun",
+    "2 gas",
+    "3 transfer fee",
+    "4 toll",
+    "5 rollover fee",
+];
+
 fn lines<W: fmt::Write>(lines: &[i64; 5], f: &mut fmt::Formatter<W>) -> fmt::Result {
-    let overrun = Dollars(lines[0]);
-    let gas = Dollars(lines[1]);
-    let fee = Dollars(lines[2]);
-    let toll = Dollars(lines[3]);
-    let rollover = Dollars(lines[4]);
-    write!(f, "\n    1 overrun        {overrun} $")?;
-    write!(f, "\n    2 gas            {gas} $")?;
-    write!(f, "\n    3 transfer fee   {fee} $")?;
-    write!(f, "\n    4 toll           {toll} $")?;
-    write!(f, "\n    5 rollover fee   {rollover} $")
+    for (name, line) in LINES.iter().zip(lines) {
+        let charge = Dollars(*line);
+        write!(f, "\n    {name:<16} {charge} $")?;
+    }
+    Ok(())
 }
 
 impl fmt::Display for Entry {
     fn fmt<W: fmt::Write>(&self, f: &mut fmt::Formatter<W>) -> fmt::Result {
-        let day = On(self.day);
-        let asked = Asked(self.call);
-        write!(f, "{day}  {asked}: ")?;
+        write!(f, "{}  {}: ", On(self.day), Asked(self.call))?;
         match self.answer {
-            Answer::Done(value) => {
-                let done = Done(self.call, value);
-                write!(f, "{done}")
-            }
-            Answer::Stated(stated) => {
-                let table = Table(stated);
-                write!(f, "done{table}")
-            }
-            Answer::Refused(refusal) => {
-                let because = Because(refusal);
-                write!(f, "refused {because}")
-            }
+            Answer::Done(value) => write!(f, "{}", Done(self.call, value)),
+            Answer::Stated(stated) => write!(f, "done{}", Table(stated)),
+            Answer::Refused(refusal) => write!(f, "refused {}", Because(refusal)),
         }
     }
 }
@@ -195,17 +162,9 @@ impl fmt::Display for Report {
         let refused = refusals_in(&self.entries);
         let booked = calls.saturating_sub(refused);
         write!(f, "{calls} calls: {booked} done, {refused} refused; ")?;
-        ending(&self.stop, f)
-    }
-}
-
-fn ending<W: fmt::Write>(stop: &Option<Stop>, f: &mut fmt::Formatter<W>) -> fmt::Result {
-    match stop {
-        Some(stop) => {
-            let place = stop.place;
-            let because = Because(stop.refusal);
-            write!(f, "reading stopped at word {place}, {because}")
+        match self.stop {
+            Some(stop) => write!(f, "reading stopped at word {}, {}", stop.place, Because(stop.refusal)),
+            None => f.write_str("read to the end"),
         }
-        None => write!(f, "read to the end"),
     }
 }

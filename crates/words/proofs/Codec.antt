@@ -45,14 +45,14 @@ head_of : (c : Call) (ws : List ℕ) → read_call (call_words c ++ ws)
     ≡ called (call_number c) (read_figures (unwrap_or (shape_of (call_number c)) [])
     (figure_words (unwrap_or (shape_of (call_number c)) []) (figures_of c) ++ ws))
 head_of Day ws = refl
-head_of (Open pool point mdv first last) ws = refl
-head_of (Post term delivered consumed) ws = refl
+head_of (Open o) ws = refl
+head_of (Post p) ws = refl
 head_of (Statement term) ws = refl
 
 named : (c : Call) → called (call_number c) (Ok (figures_of c)) ≡ Ok (c, length (call_words c))
 named Day = refl
-named (Open pool point mdv first last) = refl
-named (Post term delivered consumed) = refl
+named (Open o) = refl
+named (Post p) = refl
 named (Statement term) = refl
 
 pub call_returns : (c : Call) (ws : List ℕ) → fit (figures_of c) ≡ true

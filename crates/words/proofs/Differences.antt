@@ -1,8 +1,11 @@
 -- The first place where two lists of words differ.
-use Rattle.std.proofs.Common.{◌≡◌, ℕ, ◌+◌, ◌<◌, ◌≤◌, eqb, List, [], ◌∷◌, ◌++◌, length, get_or}
-use Rattle.std.proofs.Common.{drop, Some, None, Option, sym, refl, ap, ◌∙◌, subst, arith}
-use Rattle.std.proofs.lemmas.List.{drop_all, drop_more, length-drop}
-use Rattle.std.proofs.lemmas.Bool.{eq-eqb, ne_eqb, eqb-true, cond-true, cond_both}
+use Rattle.std.proofs.Common.{◌≡◌, ◌==◌, ℕ, suc, ◌+◌, ◌≤◌, Bool, cond, not, eqb, ltb, List, [], ◌∷◌, ◌++◌, length}
+use Rattle.std.proofs.Common.{drop, Some, None, Option, sym, refl, ap, ◌∙◌, subst, inl, inr, arith}
+use Rattle.std.specs.List.{position_from, zip}
+use Rattle.std.specs.Bool.{then_some}
+use Rattle.std.specs.Option.{option_or}
+use Rattle.std.proofs.lemmas.List.{length-drop}
+use Rattle.std.proofs.lemmas.Bool.{cases_Bool, cases_lt, eq-eqb, eqb-true, lt-ltb, le-ltb, cond-true, cond-false, cond_both}
 use Rattle.calls.specs.declared.call.Answer.{Answer}
 use Rattle.calls.specs.declared.call.Answer.TheVariants.{Done, Stated, Refused}
 use Rattle.calls.specs.declared.call.Call.{Call}
@@ -21,27 +24,42 @@ shifted_onward : (i : ℕ) (o : Option ℕ) → shifted i (onward o) ≡ shifted
 shifted_onward i None = refl
 shifted_onward i (Some at) = ap Some (omega arith)
 
-module _ (es ws : List ℕ) (i : ℕ) (so_far : shifted i (differs (drop i es) (drop i ws)) ≡ differs es ws) where
-  found : differs (drop i es) (drop i ws) ≡ Some 0 → Some i ≡ differs es ws
-  found e = ap Some (omega arith) ∙ sym (ap (shifted i) e) ∙ so_far
+-- a pair of words that are not the same
+abbrev pub unlike : ℕ × ℕ → Bool
+unlike p = not (p.1 == p.0)
 
-  pub found_end : i < length es → length ws ≤ i → Some i ≡ differs es ws
-  found_end h k = found (rw (drop_more es i 0 h, drop_all i ws k))
+-- the end of the words, where they are too few
+abbrev pub end_of : ℕ → List ℕ → List ℕ → Option ℕ
+end_of i es ws = then_some (ltb (length ws) (length es)) (length ws + i)
 
-  pub found_other : i < length es → i < length ws → (get_or ws i 0 ≡ get_or es i 0 → ⊥) → Some i ≡ differs es ws
-  found_other h k ne = let e = ne_eqb (get_or ws i 0) (get_or es i 0) ne in
-      found (rw (drop_more es i 0 h, drop_more ws i 0 k, e))
+end_more : (e w : ℕ) (es ws : List ℕ) (i : ℕ) → end_of i (e ∷ es) (w ∷ ws) ≡ end_of (i + 1) es ws
+end_more e w es ws i = elim (cases_lt (length ws) (length es)) [
+  | inl h ↦ ap (λ b. then_some b (suc (length ws) + i)) (lt-ltb (suc (length ws)) (suc (length es)) (omega arith))
+      ∙ ap Some (omega arith) ∙ sym (ap (λ b. then_some b (length ws + (i + 1))) (lt-ltb _ _ h))
+  | inr h ↦ ap (λ b. then_some b (suc (length ws) + i)) (le-ltb (suc (length ws)) (suc (length es)) (omega arith))
+      ∙ sym (ap (λ b. then_some b (length ws + (i + 1))) (le-ltb _ _ h))
+]
 
-  pub same_more : i < length es → i < length ws → get_or ws i 0 ≡ get_or es i 0
-      → shifted (i + 1) (differs (drop (i + 1) es) (drop (i + 1) ws)) ≡ differs es ws
-  same_more h k is =
-      let t = eq-eqb (get_or ws i 0) (get_or es i 0) is in
-      let e : differs (drop i es) (drop i ws) ≡ onward (differs (drop (i + 1) es) (drop (i + 1) ws)) =
-      rw (drop_more es i 0 h, drop_more ws i 0 k, t) in
-      sym (shifted_onward i (differs (drop (i + 1) es) (drop (i + 1) ws))) ∙ sym (ap (shifted i) e) ∙ so_far
+-- the first pair that is unlike, or the end of the words
+by_pairs : (es ws : List ℕ) (i : ℕ)
+    → option_or (position_from unlike i (zip es ws)) (end_of i es ws) ≡ shifted i (differs es ws)
+by_pairs [] ws i = ap (λ b. then_some b (length ws + i)) (le-ltb (length ws) 0 (omega arith))
+by_pairs (e ∷ es) [] i = ap (λ b. then_some b (0 + i)) (lt-ltb 0 (suc (length es)) (omega arith))
+by_pairs (e ∷ es) (w ∷ ws) i =
+    let rest = position_from unlike (i + 1) (zip es ws) in
+    elim (cases_Bool (w == e)) [
+      | inl t ↦ ap (λ b. option_or (cond (not b) (Some i) rest) (end_of i (e ∷ es) (w ∷ ws))) t
+          ∙ ap (option_or rest) (end_more e w es ws i)
+          ∙ by_pairs es ws (i + 1)
+          ∙ sym (shifted_onward i (differs es ws))
+          ∙ sym (ap (shifted i) (cond-true (w == e) (onward (differs es ws)) (Some 0) t))
+      | inr f ↦ ap (λ b. option_or (cond (not b) (Some i) rest) (end_of i (e ∷ es) (w ∷ ws))) f
+          ∙ ap Some (omega arith)
+          ∙ sym (ap (shifted i) (cond-false (w == e) (onward (differs es ws)) (Some 0) f))
+    ]
 
-  pub same_all : length es ≤ i → None ≡ differs es ws
-  same_all h = sym (ap (λ s. shifted i (differs s (drop i ws))) (drop_all i es h)) ∙ so_far
+pub paired : (es ws : List ℕ) → option_or (position_from unlike 0 (zip es ws)) (end_of 0 es ws) ≡ differs es ws
+paired es ws = by_pairs es ws 0 ∙ shifted_none (differs es ws)
 
 -- a difference stands within the words or at their end, and where there is none the words begin as expected
 abbrev Tells : List ℕ → List ℕ → Option ℕ → Type 0

@@ -16,6 +16,7 @@ use Rattle.words.specs.Journal.{Reading, next, ended}
 use Rattle.words.specs.Kinds.{kind_in, value_in}
 use Rattle.words.specs.Shapes.{call_number}
 use Rattle.words.specs.Writing.{answer_words, fit}
+use Rattle.words.specs.declared.misread.Misread.{Misread}
 
 -- A signed figure is below 0 where its word is of kind 7.
 abbrev pub is_below : ℕ → Bool
@@ -128,6 +129,6 @@ pub record Unreplied (c : Call) (words : List ℕ) (place : ℕ) (at : ℕ) : Ty
   pub read : read_answer c (drop place words) ≡ Err off
   pub here : at ≡ place + off
 
-abbrev pub Reply : Call → List ℕ → ℕ → Result Answer ℕ → ℕ → Type 0
+abbrev pub Reply : Call → List ℕ → ℕ → Result Answer Misread → ℕ → Type 0
 Reply c words place (Ok a) after = Replied c words place a after
-Reply c words place (Err at) after = Unreplied c words place at × (after ≡ place)
+Reply c words place (Err e) after = Unreplied c words place e.place × (after ≡ place)

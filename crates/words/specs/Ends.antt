@@ -7,7 +7,7 @@ use Rattle.words.specs.declared.unread.Unread.TheVariants.{Stop, NoMemory}
 
 -- All that was read, or the place of the stop; want of memory says nothing of the words.
 abbrev pub EndsAt : {X : Type 0} → Reading X → Unread → Type 0
-EndsAt {X} s (Stop at) = (xs : List X) × (s ≡ halted xs at)
+EndsAt {X} s (Stop e) = (xs : List X) × (s ≡ halted xs e.place)
 EndsAt s NoMemory = Unit {0}
 
 abbrev pub ToEnd : {X : Type 0} → Reading X → Result (Vec X Global) Unread → Type 0

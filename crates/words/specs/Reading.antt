@@ -1,11 +1,13 @@
 -- Reading calls off words.
 use Rattle.std.specs.Prelude.{◌≡◌, ℕ, ◌+◌, ◌≤◌, cond, List, [], ◌∷◌, length, drop, Some}
 use Rattle.std.specs.Prelude.{None, Ok, Err, Option, Result, ◌==◌, slice_index}
+use Rattle.arrayvec.specs.ArrayVec.{ArrayVec}
 use Rattle.calls.specs.declared.call.Call.{Call}
 use Rattle.calls.specs.declared.call.Call.TheVariants.{Day, Open, Post, Statement}
 use Rattle.words.specs.Kinds.{kind_number, kind_in, value_in}
 use Rattle.words.specs.Shapes.{shape_of}
 use Rattle.words.specs.declared.kind.Kind.{Kind}
+use Rattle.words.specs.declared.misread.Misread.{Misread}
 
 -- The figures of these kinds at the front of the words, or how far in the first wrong or missing word stands.
 abbrev pub further : Result (List ℕ) ℕ → ℕ → Result (List ℕ) ℕ
@@ -20,8 +22,14 @@ read_figures (k ∷ ks) (w ∷ ws) = cond (kind_in w == kind_number k) (further 
 -- A call by its number and its figures.
 abbrev pub call_of : ℕ → List ℕ → Call
 call_of n vs =
-    cond (n == 2) (Open (slice_index vs 0) (slice_index vs 1) (slice_index vs 2) (slice_index vs 3) (slice_index vs 4))
-    (cond (n == 3) (Post (slice_index vs 0) (slice_index vs 1) (slice_index vs 2))
+    cond (n == 2) (Open (record {
+      pool = slice_index vs 0;
+      point = slice_index vs 1;
+      mdv = slice_index vs 2;
+      first = slice_index vs 3;
+      last = slice_index vs 4;
+    }))
+    (cond (n == 3) (Post (record { term = slice_index vs 0; delivered = slice_index vs 1; consumed = slice_index vs 2 }))
     (cond (n == 10) (Statement (slice_index vs 0)) Day))
 
 -- The call at the front of the words, with how many words it has; or how far in the word stands that is wrong,
@@ -53,12 +61,24 @@ pub record Stopped (words : List ℕ) (place : ℕ) (at : ℕ) : Type 0 where
   pub here : at ≡ place + off
 
 -- A reader's step: a call, and the place is past it; or a stop, and the place is as it was.
-abbrev pub Read : List ℕ → ℕ → Result Call ℕ → ℕ → Type 0
+abbrev pub Read : List ℕ → ℕ → Result Call Misread → ℕ → Type 0
 Read words place (Ok c) after = Used words place c after
-Read words place (Err at) after = Stopped words place at × (after ≡ place)
+Read words place (Err e) after = Stopped words place e.place × (after ≡ place)
+
+-- One word: its value, and the place is past it; or it is of another kind or missing, and the place is as it was.
+abbrev pub Valued : Kind → List ℕ → ℕ → Result ℕ Misread → ℕ → Type 0
+Valued kind words place (Ok v) after = (read_figures (kind ∷ []) (drop place words) ≡ Ok (v ∷ [])) × (after ≡ place + 1)
+Valued kind words place (Err e) after =
+    (read_figures (kind ∷ []) (drop place words) ≡ Err 0) × (e.place ≡ place) × (after ≡ place)
 
 -- The place of the first word, from a place on, that is not of its kind or is missing.
 pub record Missed (kinds : List Kind) (words : List ℕ) (place : ℕ) (at : ℕ) : Type 0 where
   pub off : ℕ
   pub read : read_figures kinds (drop place words) ≡ Err off
   pub here : at ≡ place + off
+
+-- The words of these kinds: their values, and the place is past them; or the first that is wrong or missing.
+abbrev pub Taken : List Kind → List ℕ → ℕ → Result (ArrayVec ℕ) Misread → ℕ → Type 0
+Taken kinds words place (Ok vs) after =
+    (read_figures kinds (drop place words) ≡ Ok vs.items) × (after ≡ place + length kinds)
+Taken kinds words place (Err e) after = Missed kinds words place e.place

@@ -24,12 +24,12 @@ shape_of n = shape_in shapes n
 -- A call's number and its figures, in the order of its shape.
 abbrev pub call_number : Call → ℕ
 call_number Day = 1
-call_number (Open pool point mdv first last) = 2
-call_number (Post term delivered consumed) = 3
+call_number (Open o) = 2
+call_number (Post p) = 3
 call_number (Statement term) = 10
 
 abbrev pub figures_of : Call → List ℕ
 figures_of Day = []
-figures_of (Open pool point mdv first last) = pool ∷ point ∷ mdv ∷ first ∷ last ∷ []
-figures_of (Post term delivered consumed) = term ∷ delivered ∷ consumed ∷ []
+figures_of (Open o) = o.pool ∷ o.point ∷ o.mdv ∷ o.first ∷ o.last ∷ []
+figures_of (Post p) = p.term ∷ p.delivered ∷ p.consumed ∷ []
 figures_of (Statement term) = term ∷ []

@@ -1,6 +1,7 @@
 -- Writing calls and answers as words.
-use Rattle.std.specs.Prelude.{ℕ, suc, ◌/◌, ◌%◌, Bool, true, cond, ◌&&◌, List, []}
+use Rattle.std.specs.Prelude.{ℕ, suc, ◌/◌, ◌%◌, Bool, cond, List, []}
 use Rattle.std.specs.Prelude.{◌∷◌, ◌++◌, ℤ, pos, negsuc, nat_lt, unsigned_abs}
+use Rattle.std.specs.List.{list_all}
 use Rattle.std.specs.Option.{unwrap_or}
 use Rattle.calls.specs.Refusals.{number_of, lacking_day}
 use Rattle.calls.specs.Statuses.{status_number}
@@ -25,8 +26,7 @@ call_words c = word kind.Call (call_number c) ∷ figure_words (unwrap_or (shape
 
 -- Every figure fits 28 bits.
 abbrev pub fit : List ℕ → Bool
-fit [] = true
-fit (v ∷ vs) = nat_lt v 268435456 && fit vs
+fit = list_all (λ v. nat_lt v 268435456)
 
 -- A signed figure: 0 or more by kind 6, below 0 by its size by kind 7.
 abbrev pub signed_word : ℤ → ℕ

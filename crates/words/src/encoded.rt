@@ -1,5 +1,6 @@
 // Answers as words.
-ghost use Rattle.std.specs.Prelude.{◌≡◌, ◌%◌, ◌≤◌, [], ◌∷◌, ◌++◌, length, take};
+ghost use Rattle.std.specs.Prelude.{◌≡◌, ◌%◌, [], ◌∷◌, ◌++◌};
+ghost use Rattle.arrayvec.specs.ArrayVec.{array_vec_len};
 ghost use Rattle.words.specs.Answers.{answer_count};
 ghost use Rattle.words.specs.Kinds.{word};
 ghost use Rattle.words.specs.Writing.{signed_word, part_word, line_words, lines_words, answer_words};
@@ -8,68 +9,58 @@ ghost use Rattle.calls.specs.declared.call.Answer.TheVariants.{Stated};
 
 use crate::kind::Kind;
 use crate::packed::word;
+use crate::row::Encoded;
 use calls::{Answer, Stated as Statement};
-
-// The first `len` of the words.
-#[derive(Clone, Copy)]
-pub struct Encoded {
-    pub words: [u32; 18],
-    pub len: usize,
-}
 
 // An answer's words: two, or eighteen for a statement.
 pub fn encode(answer: &Answer) -> Encoded
-    ensures words { take result.len result.words ≡ answer_words answer.now }
-    ensures len { result.len ≡ length (answer_words answer.now) }
-    ensures within { result.len ≤ 18 }
-    ensures count { result.len ≡ answer_count answer.now }
+    ensures words { result.items ≡ answer_words answer.now }
+    ensures count { array_vec_len result ≡ answer_count answer.now }
 {
     match answer {
         Answer::Done(value) => two(Kind::Done, *value, 0),
         Answer::Stated(stated) => statement(stated),
-        Answer::Refused(refusal) => two(
-            Kind::Refused,
-            refusal.rule().number,
-            refusal.lacking_day(),
-        ),
+        Answer::Refused(refusal) => {
+            let day = refusal.lack().map_or(0, |lack| lack.day);
+            two(Kind::Refused, refusal.rule().number, day)
+        }
     }
 }
 
 fn two(kind: Kind, value: u32, figure: u32) -> Encoded
-    ensures words { take 2 result.words ≡ word kind value ∷ word Figure figure ∷ [] }
-    ensures len { result.len ≡ 2 }
+    ensures { result.items ≡ word kind value ∷ word Figure figure ∷ [] }
 {
-    let mut words = [0; 18];
-    words[0] = word(kind, value);
-    words[1] = word(Kind::Figure, figure);
-    Encoded { words, len: 2 }
+    let mut words = Encoded::new();
+    words.push(word(kind, value));
+    words.push(word(Kind::Figure, figure));
+    words
 }
 
 fn statement(stated: &Statement) -> Encoded
-    ensures words { take 18 result.words ≡ answer_words (Stated stated.now) }
-    ensures len { result.len ≡ 18 }
+    ensures words { result.items ≡ answer_words (Stated stated.now) }
+    ensures len { array_vec_len result ≡ 18 }
 {
-    let mut words = [0; 18];
-    words[0] = word(Kind::Done, 0);
-    words[1] = word(Kind::Figure, 0);
-    words[2] = word(Kind::Number, stated.term);
-    words[3] = word(Kind::Number, stated.pool);
-    words[4] = word(Kind::Status, stated.status.number());
-    words[5] = word(Kind::Day, stated.next);
-    words[6] = signed_word(stated.balance);
-    words[7] = word(Kind::Volume, stated.on_offer);
-    put_lines(&mut words, &stated.lines);
-    Encoded { words, len: 18 }
+    let mut words = two(Kind::Done, 0, 0);
+    words.push(word(Kind::Number, stated.term));
+    words.push(word(Kind::Number, stated.pool));
+    words.push(word(Kind::Status, u32::from(stated.status)));
+    words.push(word(Kind::Day, stated.next));
+    words.push(signed_word(stated.balance));
+    words.push(word(Kind::Volume, stated.on_offer));
+    push_lines(&mut words, &stated.lines);
+    words
 }
 
 // The lines go behind the first eight words.
-fn put_lines(words: &mut [u32; 18], lines: &[i64; 5])
-    ensures { take 18 words.new ≡ take 8 words.old ++ lines_words lines.now }
+fn push_lines(words: &mut Encoded, lines: &[i64; 5])
+    requires { array_vec_len words.old ≡ 8 }
+    ensures words { words.new.items ≡ words.old.items ++ lines_words lines.now }
+    ensures len { array_vec_len words.new ≡ 18 }
 {
-    for i in 0..5 {
-        let (whole, rest) = line_words(lines[i]);
-        words[8 + 2 * i] = whole;
-        words[9 + 2 * i] = rest;
+    for line in lines {
+        let (whole, rest) = line_words(*line);
+        words.push(whole);
+        words.push(rest);
     }
 }
 

@@ -1,7 +1,33 @@
 // Why calls were not written.
-#[derive(Clone, Copy)]
+ghost use Rattle.std.specs.Prelude.{◌≡◌};
+ghost use Rattle.words.specs.declared.fault.Unwritten.TheVariants.{NoMemory};
+
+use std::alloc::AllocError;
+use std::error::Error;
+use std::fmt;
+
+#[derive(Clone, Copy, Debug, PartialEq, Eq)]
 pub enum Unwritten {
     // a figure does not fit its word, or the words would be more than a journal has
     OutOfRange,
     NoMemory,
 }
+
+impl From<AllocError> for Unwritten {
+    ghost from_gives = { λ _ r. r ≡ NoMemory };
+
+    fn from(_e: AllocError) -> Unwritten {
+        Unwritten::NoMemory
+    }
+}
+
+impl fmt::Display for Unwritten {
+    fn fmt<W: fmt::Write>(&self, f: &mut fmt::Formatter<W>) -> fmt::Result {
+        f.write_str(match self {
+            Unwritten::OutOfRange => "a figure or the number of words is out of range",
+            Unwritten::NoMemory => "out of memory",
+        })
+    }
+}
+
+impl Error for Unwritten {}

@@ -1,34 +1,34 @@
 // A call by its number and its figures, and back.
-ghost use Rattle.std.specs.Prelude.{◌≡◌, take, slice_index};
+ghost use Rattle.std.specs.Prelude.{◌≡◌, ◌≤◌, length, slice_index};
 ghost use Rattle.words.specs.Reading.{call_of};
 ghost use Rattle.words.specs.Shapes.{call_number, figures_of};
 
 use crate::row::Figures;
-use calls::Call;
+use calls::{Call, Opening, Posting};
 
 // The figure at a place, and 0 past the last.
 pub fn figure(figures: &[u32], i: usize) -> u32
     ensures { result ≡ slice_index figures.now i }
 {
-    if i < figures.len() { figures[i] } else { 0 }
+    figures.get(i).copied().unwrap_or(0)
 }
 
 pub fn call_of(number: u32, figures: &[u32]) -> Call
     ensures { result ≡ call_of number figures.now }
 {
     match number {
-        2 => Call::Open {
+        2 => Call::Open(Opening {
             pool: figure(figures, 0),
             point: figure(figures, 1),
             mdv: figure(figures, 2),
             first: figure(figures, 3),
             last: figure(figures, 4),
-        },
-        3 => Call::Post {
+        }),
+        3 => Call::Post(Posting {
             term: figure(figures, 0),
             delivered: figure(figures, 1),
             consumed: figure(figures, 2),
-        },
+        }),
         10 => Call::Statement {
             term: figure(figures, 0),
         },
@@ -41,41 +41,27 @@ pub fn number_of(call: &Call) -> u32
 {
     match call {
         Call::Day => 1,
-        Call::Open { .. } => 2,
-        Call::Post { .. } => 3,
+        Call::Open(_) => 2,
+        Call::Post(_) => 3,
         Call::Statement { .. } => 10,
     }
 }
 
 pub fn figures_of(call: &Call) -> Figures
-    ensures { take result.count result.values ≡ figures_of call.now }
+    ensures { result.items ≡ figures_of call.now }
 {
     match *call {
-        Call::Day => Figures {
-            values: [0, 0, 0, 0, 0, 0, 0, 0],
-            count: 0,
-        },
-        Call::Open {
-            pool,
-            point,
-            mdv,
-            first,
-            last,
-        } => Figures {
-            values: [pool, point, mdv, first, last, 0, 0, 0],
-            count: 5,
-        },
-        Call::Post {
-            term,
-            delivered,
-            consumed,
-        } => Figures {
-            values: [term, delivered, consumed, 0, 0, 0, 0, 0],
-            count: 3,
-        },
-        Call::Statement { term } => Figures {
-            values: [term, 0, 0, 0, 0, 0, 0, 0],
-            count: 1,
-        },
+        Call::Day => Figures::new(),
+        Call::Open(o) => row(&[o.pool, o.point, o.mdv, o.first, o.last]),
+        Call::Post(p) => row(&[p.term, p.delivered, p.consumed]),
+        Call::Statement { term } => row(&[term]),
     }
+}
+
+// These figures in a row.
+fn row(figures: &[u32]) -> Figures
+    requires { length figures.now ≤ 8 }
+    ensures { result.items ≡ figures.now }
+{
+    Figures::try_from(figures).unwrap()
 }

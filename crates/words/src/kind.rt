@@ -1,36 +1,25 @@
-// The kinds of words.
+// The kinds of words, with their numbers.
 ghost use Rattle.std.specs.Prelude.{◌≡◌};
 ghost use Rattle.words.specs.Kinds.{kind_number};
 
-#[derive(Clone, Copy)]
+#[derive(Clone, Copy, Debug, PartialEq, Eq)]
 pub enum Kind {
-    Call,
-    Number,
-    Day,
-    Volume,
-    Point,
-    Figure,
-    Below,
-    Done,
-    Refused,
-    Status,
+    Call = 1,
+    Number = 2,
+    Day = 3,
+    Volume = 4,
+    Point = 5,
+    Figure = 6,
+    Below = 7,
+    Done = 8,
+    Refused = 9,
+    Status = 10,
 }
 
-impl Kind {
-    pub fn number(&self) -> u32
-        ensures { result ≡ kind_number self.now }
-    {
-        match self {
-            Kind::Call => 1,
-            Kind::Number => 2,
-            Kind::Day => 3,
-            Kind::Volume => 4,
-            Kind::Point => 5,
-            Kind::Figure => 6,
-            Kind::Below => 7,
-            Kind::Done => 8,
-            Kind::Refused => 9,
-            Kind::Status => 10,
-        }
+impl From<Kind> for u32 {
+    ghost from_gives = { λ k n. n ≡ kind_number k };
+
+    fn from(kind: Kind) -> u32 {
+        kind as u32
     }
 }

@@ -3,27 +3,21 @@ ghost use Rattle.words.specs.Laws.{CallReturns, CallsReturn, WordsReturn, StopsA
 ghost use Rattle.words.specs.Laws.{AnswersAreCounted, AnswerReturns, AnswersReturn, AnswerWordsReturn};
 
 // Calls to words and back.
-pub fn calls_stand() -> u8
+pub fn calls_stand()
     ensures call { CallReturns }
     ensures calls { CallsReturn }
-{
-    0
-}
+{}
 
 // Words to calls and back.
-pub fn journals_stand() -> u8
+pub fn journals_stand()
     ensures words { WordsReturn }
     ensures stops { StopsAreExact }
-{
-    0
-}
+{}
 
 // Answers to words and back, and words to answers and back.
-pub fn answers_stand() -> u8
+pub fn answers_stand()
     ensures counted { AnswersAreCounted }
     ensures answer { AnswerReturns }
     ensures answers { AnswersReturn }
     ensures words { AnswerWordsReturn }
-{
-    0
-}
+{}

@@ -8,7 +8,7 @@ use crate::kind::Kind;
 pub fn word(kind: Kind, value: u32) -> u32
     ensures { result ≡ word kind value }
 {
-    kind.number() * 0x1000_0000 + value_of(value)
+    u32::from(kind) * 0x1000_0000 + value_of(value)
 }
 
 // The low 28 bits.
@@ -19,8 +19,8 @@ pub fn value_of(bits: u32) -> u32
 }
 
 // Whether a word is of this kind.
-pub fn is_of(bits: u32, kind: &Kind) -> bool
-    ensures { result ≡ (kind_in bits == kind_number kind.now) }
+pub fn is_of(bits: u32, kind: Kind) -> bool
+    ensures { result ≡ (kind_in bits == kind_number kind) }
 {
-    bits >> 28 == kind.number()
+    bits >> 28 == u32::from(kind)
 }

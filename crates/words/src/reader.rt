@@ -1,16 +1,17 @@
 // Reading calls off lent words.
-ghost use Rattle.std.specs.Prelude.{◌≡◌, ◌≤◌, length, take, drop, Ok, MatchResult, nat_le};
-ghost use Rattle.words.specs.Reading.{read_figures, Used, Stopped, Read, Missed};
+ghost use Rattle.std.specs.Prelude.{◌≡◌, ◌≤◌, length, nat_le, drop};
+ghost use Rattle.words.specs.Reading.{Read, Valued, Taken};
 
 use crate::figures::call_of;
 use crate::kind::Kind;
+use crate::misread::Misread;
 use crate::packed::{is_of, value_of};
 use crate::row::Figures;
-use crate::table::{MOST, shape};
+use crate::table::shape;
 use calls::Call;
 
 // The words as they were handed in, and the place that is read next.
-#[derive(Clone, Copy)]
+#[derive(Clone, Copy, Debug)]
 pub struct Reader<'a> {
     pub words: &'a [u32],
     pub place: usize,
@@ -32,48 +33,42 @@ impl<'a> Reader<'a> {
     }
 
     // The next call; or the place of a word that is wrong, unknown or missing, and then the reader stays where it is.
-    pub fn call(&mut self) -> Result<Call, usize>
+    pub fn call(&mut self) -> Result<Call, Misread>
         ensures read { Read self.old.words.now self.old.place result self.new.place }
         ensures same { self.new.words.now ≡ self.old.words.now }
     {
-        let (call, after) = call_at(self.words, self.place)?;
-        self.place = after;
-        Ok(call)
+        let mut ahead = *self;
+        let number = ahead.value(Kind::Call)?;
+        let kinds = shape(number).ok_or(Misread { place: self.place })?;
+        let figures = ahead.figures(kinds)?;
+        self.place = ahead.place;
+        Ok(call_of(number, &figures))
     }
-}
 
-// The call at a place of the words and the place past it, or the place of the word that stops it.
-fn call_at(words: &[u32], place: usize) -> Result<(Call, usize), usize>
-    ensures { MatchResult result (λ p. Used words.now place p.0 p.1) (λ at. Stopped words.now place at) }
-{
-    if place >= words.len() || !is_of(words[place], &Kind::Call) {
-        return Err(place);
-    }
-    let number = value_of(words[place]);
-    let Some(kinds) = shape(number) else {
-        return Err(place);
-    };
-    let figures = figures_at(kinds, words, place + 1)?;
-    Ok((call_of(number, figures.as_slice()), place + 1 + kinds.len()))
-}
-
-// The figures of these kinds from a place on, or the place of the first wrong or missing word.
-fn figures_at(kinds: &[Kind], words: &[u32], place: usize) -> Result<Figures, usize>
-    requires { (length kinds.now ≤ 8) × (place ≤ length words.now) }
-    ensures { MatchResult result
-        (λ f. read_figures kinds.now (drop place words.now) ≡ Ok (take f.count f.values))
-        (λ at. Missed kinds.now words.now place at) }
-{
-    let mut values = [0; MOST];
-    for i in 0..kinds.len() {
-        let at = place + i;
-        if at >= words.len() || !is_of(words[at], &kinds[i]) {
-            return Err(at);
+    // The values of the next words, which are of these kinds; or the place of one that is wrong or missing.
+    fn figures(&mut self, kinds: &[Kind]) -> Result<Figures, Misread>
+        requires { length kinds.now ≤ 8 }
+        ensures read { Taken kinds.now self.old.words.now self.old.place result self.new.place }
+        ensures same { self.new.words.now ≡ self.old.words.now }
+    {
+        let mut figures = Figures::new();
+        for kind in kinds {
+            figures.push(self.value(*kind)?);
         }
-        values[i] = value_of(words[at]);
+        Ok(figures)
     }
-    Ok(Figures {
-        values,
-        count: kinds.len(),
-    })
+
+    // The value of the next word, if it is of this kind; if not, the reader stays where it is.
+    fn value(&mut self, kind: Kind) -> Result<u32, Misread>
+        ensures read { Valued kind self.old.words.now self.old.place result self.new.place }
+        ensures same { self.new.words.now ≡ self.old.words.now }
+    {
+        match self.words.get(self.place) {
+            Some(word) if is_of(*word, kind) => {
+                self.place += 1;
+                Ok(value_of(*word))
+            }
+            _ => Err(Misread { place: self.place }),
+        }
+    }
 }

@@ -1,20 +1,14 @@
-// The figures of a call, in the order of its shape.
-ghost use Rattle.std.specs.Prelude.{◌≡◌, ◌≤◌, take};
+// Rows of words: as many as there are, in the value itself.
+use arrayvec::ArrayVec;
 
-use crate::table::MOST;
+// No call has more figures than this.
+pub const MOST: usize = 8;
 
-// The first `count` of the values.
-#[derive(Clone, Copy)]
-pub struct Figures {
-    pub values: [u32; MOST],
-    pub count: usize,
-    ghost within: { count ≤ 8 },
-}
+// A call's figures, in the order of its shape.
+pub type Figures = ArrayVec<u32, MOST>;
 
-impl Figures {
-    pub fn as_slice(&self) -> &[u32]
-        ensures { result.now ≡ take self.now.count self.now.values }
-    {
-        &self.values[0..self.count]
-    }
-}
+// A call's words.
+pub type Written = ArrayVec<u32, 9>;
+
+// An answer's words.
+pub type Encoded = ArrayVec<u32, 18>;

@@ -4,9 +4,6 @@ ghost use Rattle.words.specs.Shapes.{shape_of};
 
 use crate::kind::Kind;
 
-// No call has more arguments than this.
-pub const MOST: usize = 8;
-
 // The kinds of the arguments of the call with this number, if there is such a call.
 pub fn shape(number: u32) -> Option<&'static [Kind]>
     ensures row { MatchOption result (shape_of number ≡ None) (λ kinds. shape_of number ≡ Some kinds.now) }

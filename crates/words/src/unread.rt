@@ -1,7 +1,42 @@
 // Why words were not read to the end.
-#[derive(Clone, Copy)]
+ghost use Rattle.std.specs.Prelude.{◌≡◌};
+ghost use Rattle.words.specs.declared.unread.Unread.TheVariants.{Stop, NoMemory};
+
+use crate::misread::Misread;
+use std::alloc::AllocFailed;
+use std::error::Error;
+use std::fmt;
+
+#[derive(Clone, Copy, Debug, PartialEq, Eq)]
 pub enum Unread {
-    // the place of the word that is wrong, unknown, missing or left over
-    Stop(usize),
+    // at the word that is wrong, unknown, missing or left over
+    Stop(Misread),
     NoMemory,
 }
+
+impl From<Misread> for Unread {
+    ghost from_gives = { λ m r. r ≡ Stop m };
+
+    fn from(misread: Misread) -> Unread {
+        Unread::Stop(misread)
+    }
+}
+
+impl<T: Drop> From<AllocFailed<T>> for Unread {
+    ghost from_gives = { λ _ r. r ≡ NoMemory };
+
+    fn from(_e: AllocFailed<T>) -> Unread {
+        Unread::NoMemory
+    }
+}
+
+impl fmt::Display for Unread {
+    fn fmt<W: fmt::Write>(&self, f: &mut fmt::Formatter<W>) -> fmt::Result {
+        match self {
+            Unread::Stop(misread) => write!(f, "{misread}"),
+            Unread::NoMemory => f.write_str("out of memory"),
+        }
+    }
+}
+
+impl Error for Unread {}

@@ -1,35 +1,24 @@
 // Writing calls as words.
 ghost use Rattle.std.specs.Prelude.{◌≡◌};
 ghost use Rattle.words.specs.Lists.{Put, WrittenAll};
-ghost use Rattle.words.specs.declared.fault.Unwritten.TheVariants.{NoMemory};
 
 use crate::fault::Unwritten;
 use crate::figures::figures_of;
 use crate::written::{fits, words_of};
 use calls::Call;
-use std::alloc::{AllocError, Global};
+use std::alloc::Global;
 
 // A journal has at most this many words.
 const ROOM: usize = 8192;
-
-impl From<AllocError> for Unwritten {
-    ghost from_gives = { λ _ r. r ≡ NoMemory };
-
-    fn from(_e: AllocError) -> Unwritten {
-        Unwritten::NoMemory
-    }
-}
 
 // Writes a call behind what is there; a call that is not written leaves the words as they were.
 pub fn write_call(call: &Call, out: &mut Vec<u32>) -> Result<(), Unwritten>
     ensures { Put call.now out.old.items result out.new.items }
 {
-    let figures = figures_of(call);
-    if !fits(figures.as_slice()) {
+    if !fits(&figures_of(call)) {
         return Err(Unwritten::OutOfRange);
     }
-    let words = words_of(call);
-    out.extend_from_slice(words.as_slice())?;
+    out.extend_from_slice(&words_of(call))?;
     Ok(())
 }
 

@@ -1,8 +1,8 @@
 // Every call by its least and greatest figures, every wrong kind, and the limits.
-use calls::{Answer, Call, Refusal, Stated, Status};
+use calls::{Answer, Call, Opening, Posting, Refusal, Stated, Status};
 use std::process::Abort;
 use std::test::Fail;
-use words::{Kind, Reader, encode, figures_of, number_of, read_calls, shape, word, write_calls};
+use words::{Kind, Misread, Reader, encode, number_of, read_calls, shape, word, write_calls};
 
 const TOP: u32 = 0x0fff_ffff;
 
@@ -10,18 +10,18 @@ const TOP: u32 = 0x0fff_ffff;
 fn every(figure: u32) -> [Call; 4] {
     [
         Call::Day,
-        Call::Open {
+        Call::Open(Opening {
             pool: figure,
             point: figure,
             mdv: figure,
             first: figure,
             last: figure,
-        },
-        Call::Post {
+        }),
+        Call::Post(Posting {
             term: figure,
             delivered: figure,
             consumed: figure,
-        },
+        }),
         Call::Statement { term: figure },
     ]
 }
@@ -30,18 +30,10 @@ fn every(figure: u32) -> [Call; 4] {
 fn calls_return(rt: HostRuntime) -> Result<(), Fail> {
     for figure in [0, 1, TOP] {
         let calls = every(figure);
-        let Ok(words) = write_calls(rt.alloc(), &calls) else {
-            return Err(Fail::new("not written"));
-        };
+        let words = write_calls(rt.alloc(), &calls)?;
         assert_eq!(rt; words.len(), 13);
-        let Ok(back) = read_calls(rt.alloc(), words.as_slice()) else {
-            return Err(Fail::new("not read"));
-        };
-        assert!(rt; back.len() == 4);
-        for i in 0..4 {
-            assert_eq!(rt; number_of(&back[i]), number_of(&calls[i]));
-            assert_eq!(rt; figures_of(&back[i]).values, figures_of(&calls[i]).values);
-        }
+        let back = read_calls(rt.alloc(), &words)?;
+        assert_eq!(rt; back.as_slice(), calls.as_slice());
     }
     Ok(())
 }
@@ -60,37 +52,35 @@ fn figures_past_28_bits(rt: HostRuntime) {
 fn with_kind(number: u32, kinds: &[Kind], at: usize, kind: u32) -> [u32; 9] {
     let mut words = [0; 9];
     words[0] = word(Kind::Call, number);
-    for i in 0..8 {
-        if i < kinds.len() {
-            words[1 + i] = if i == at {
-                kind << 28 | 1
-            } else {
-                word(kinds[i], 1)
-            };
-        }
+    for (i, (figure, right)) in words[1..].iter_mut().zip(kinds).enumerate() {
+        *figure = if i == at { kind << 28 | 1 } else { word(*right, 1) };
     }
     words
+}
+
+// Reading a call stops at this place.
+fn stops(rt: &impl Abort, words: &[u32], place: usize) {
+    assert_eq!(rt; Reader::new(words).call().err(), Some(Misread { place }));
 }
 
 #[test]
 fn wrong_kinds_stop(rt: HostRuntime) -> Result<(), Fail> {
     for number in [1, 2, 3, 10] {
         let kinds = shape(number).ok_or("no shape")?;
-        for at in 0..kinds.len() {
+        for (at, right) in kinds.iter().enumerate() {
             for kind in 0..16 {
                 let words = with_kind(number, kinds, at, kind);
-                let stop = if kind == kinds[at].number() {
-                    None
+                if kind == u32::from(*right) {
+                    assert!(rt; Reader::new(&words).call().is_ok());
                 } else {
-                    Some(1 + at)
-                };
-                assert_eq!(rt; Reader::new(&words).call().err(), stop);
-                assert_eq!(rt; Reader::new(&words[0..1 + at]).call().err(), Some(1 + at));
+                    stops(&rt, &words, 1 + at);
+                }
+                stops(&rt, words.get(..1 + at).unwrap_or(&[]), 1 + at);
             }
         }
     }
-    assert_eq!(rt; Reader::new(&[word(Kind::Call, 4)]).call().err(), Some(0));
-    assert_eq!(rt; Reader::new(&[word(Kind::Number, 1)]).call().err(), Some(0));
+    stops(&rt, &[word(Kind::Call, 4)], 0);
+    stops(&rt, &[word(Kind::Number, 1)], 0);
     Ok(())
 }
 
@@ -109,19 +99,20 @@ fn room(rt: HostRuntime) -> Result<(), Fail> {
 // An answer's words, and where each is read with another kind.
 fn answered(rt: &impl Abort, call: &Call, answer: &Answer, len: usize) -> Result<(), Fail> {
     let encoded = encode(answer);
-    assert_eq!(rt; encoded.len, len);
-    let mut reader = Reader::new(&encoded.words);
-    let Ok(back) = reader.answer(call) else {
-        return Err(Fail::new("not read"));
-    };
+    assert_eq!(rt; encoded.len(), len);
+    let mut words = [0; 18];
+    for (place, word) in words.iter_mut().zip(&encoded) {
+        *place = *word;
+    }
+    let mut reader = Reader::new(&words);
+    assert_eq!(rt; reader.answer(call)?, *answer);
     assert_eq!(rt; reader.place, len);
-    assert_eq!(rt; encode(&back).words, encoded.words);
-    for at in 0..encoded.len {
-        let mut words = encoded.words;
-        if at < 18 {
-            words[at] ^= 0xf000_0000;
+    for (place, _) in encoded.iter().enumerate() {
+        let mut spoilt = words;
+        if let Some(word) = spoilt.get_mut(place) {
+            *word ^= 0xf000_0000;
         }
-        assert_eq!(rt; Reader::new(&words).answer(call).err(), Some(at));
+        assert_eq!(rt; Reader::new(&spoilt).answer(call).err(), Some(Misread { place }));
     }
     Ok(())
 }

@@ -3,7 +3,7 @@ use Rattle.std.specs.Prelude.{◌≡◌, ℕ, ◌<◌, ◌≤◌}
 use Rattle.balancing.specs.Rules.{north_band}
 use Rattle.calls.specs.declared.refusal.Refusal.TheVariants.{OutOfRange}
 use Rattle.ledger.specs.Calls.{Meaning}
-use Rattle.ledger.specs.declared.allowances.Allowances.{Allowances}
+use Rattle.ledger.specs.Book.{Allowances}
 use Rattle.ledger.specs.declared.failing.NotMade.{NotMade}
 use Rattle.ledger.specs.declared.failing.NotMade.TheVariants.{Refused, NoMemory}
 use Rattle.zones.specs.Sources.{north_quote}

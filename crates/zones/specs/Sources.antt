@@ -1,8 +1,7 @@
 -- The price sources of the zones, in the figures that they are made of.
 use Rattle.std.specs.Prelude.{ℕ, ◌-◌, List, pos, neg_ℤ, Ok}
-use Rattle.prices.specs.declared.tolls.Tolls.{Tolls}
 use Rattle.prices.specs.Ends.{daily_quote, monthly_quote}
-use Rattle.prices.specs.Layers.{shared, tolled}
+use Rattle.prices.specs.Layers.{Tolls, shared, tolled}
 use Rattle.prices.specs.Quotes.{Quote}
 
 -- EGD's two tolls.

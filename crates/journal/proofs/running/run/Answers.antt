@@ -49,13 +49,15 @@ calls-preserved g c =
     let h : place < length words = omega (arith, leb-false _ _ (sym c.calls-test.ensures), ap length inv.2) in
     let used = rw inv.2 at c.in-Ok.ensures.read in
     let met = rw inv.1 at c.apply.ensures.call in
-    let encoded = c.encode-answer.ensures in
-    let n : c.encode-answer.result.len ≡ c.answer_len.result =
-    encoded.len ∙ ap (λ x. length (answer_words x)) met.answers ∙ sym (c.answer_len.ensures m) in
-    let fits : c.encode-answer.result.len ≤ length c.args.answers.now - c.calls.written =
+    let encoded = c.encode-answer.result.items in
+    let n : length encoded ≡ c.answer_len.result =
+    ap length c.encode-answer.ensures.words ∙ ap (λ x. length (answer_words x)) met.answers
+    ∙ sym (c.answer_len.ensures m) in
+    let fits : length encoded ≤ length c.args.answers.now - c.calls.written =
     omega (arith, n, c.if-answers-written.false, c.calls.auto.answers) in (
-      step_on m words _ _ _ _ place _ inv.0 c.in-Ok.call _ _ _ _ _ _ h used met encoded.words encoded.len fits
-          c.put.ensures (omega (arith, fits, c.calls.auto.answers, c.put.auto.answers, inv.0.inside)),
+      rw c.len-written.ensures.value (step_on m words _ _ _ _ place _ inv.0 c.in-Ok.call _ _ _ encoded _ h used met
+          c.encode-answer.ensures.words fits (rw c.deref.ensures.0 at c.put.ensures)
+          (omega (arith, fits, c.calls.auto.answers, c.put.auto.answers, inv.0.inside))),
       c.apply.ensures.zone ∙ inv.1,
       c.call.ensures.same ∙ inv.2,
     )

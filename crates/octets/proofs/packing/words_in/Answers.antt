@@ -1,18 +1,25 @@
-use Rattle.std.proofs.Common.{◌≡◌, ◌/◌, length, arith}
-use Rattle.octets.proofs.Words.{word_more, words_whole, words_cut}
+use Rattle.std.proofs.Common.{Ok, ◌≡◌, ◌<◌, length, map, rules, arith}
+use Rattle.std.specs.Int.{w32, from_le_bytes}
+use Rattle.std.proofs.lemmas.Iterator.{YieldsList-from_slice, YieldsList-from_map, items_from_collect}
+use Rattle.std.proofs.lemmas.Bool.Decides.{nat_tests}
+use Rattle.octets.proofs.Words.{words_whole, words_cut}
 use Rattle.octets.proofs.packing.words_in.Goals as goal
-
-pub loop-i-preserved : goal.loop-i-preserved
-loop-i-preserved c =
-    let e = c.in_ok-push.ensures.items in
-    rw e (word_more _ _ c.loop-i.i _ (omega arith) c.loop-i.invariant c.little.ensures)
-
-pub returns-then-bytes-eq0 : goal.returns-then-bytes-eq0
-returns-then-bytes-eq0 c =
-    let e : c.loop-i.i ≡ length c.args.bytes.now / 4 = omega arith in
-    words_whole _ _ c.loop-i.i c.loop-i.invariant e c.if-bytes-eq0.true
+use Rattle.octets.proofs.packing.words_in.Goals.{then-not-is_empty+in_ok-push, else-not-is_empty}
 
 pub returns : goal.returns
 returns c =
-    let e : c.loop-i.i ≡ length c.args.bytes.now / 4 = omega arith in
-    rw c.in_ok-push-2.ensures.items (words_cut _ _ c.loop-i.i c.loop-i.invariant e (omega arith))
+    let collected = items_from_collect _ c.collect.ensures.ran
+    (YieldsList-from_map _ (from_le_bytes w32) (YieldsList-from_slice c.as_chunks.result.0.now (cc)) (cc)
+    (λ x r q k. search rules)) in
+    let was : c.collect.result ≡ Ok c.in_ok-words.words = c.in_ok-words.was in
+    let made : c.in_ok-words.words.items ≡ map (from_le_bytes w32) c.as_chunks.result.0.now =
+    rw was at collected in
+    let split = c.as_chunks.ensures in
+    elim c.if-not-is_empty.branch [
+      | then-not-is_empty+in_ok-push w ↦
+          let some : 0 < length c.as_chunks.result.1.now = grind (arith, nat_tests) in
+          rw (w.words-is, w.in_ok-push.ensures.items) (words_cut _ _ _ _ made split.front split.back some)
+      | else-not-is_empty w ↦
+          let none : length c.as_chunks.result.1.now ≡ 0 = grind (arith, nat_tests) in
+          rw w.words-is (words_whole _ _ _ _ made split.front split.back none)
+    ]

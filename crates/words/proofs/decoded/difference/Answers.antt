@@ -1,26 +1,15 @@
-use Rattle.words.specs.Answers.{differs}
-use Rattle.words.proofs.Differences.{shifted_none, found_end, found_other, same_more, same_all}
+use Rattle.std.proofs.Common.{length, sym, ap, ◌∙◌, ltb, add-zero}
+use Rattle.std.proofs.lemmas.Iterator.Adapters.{position_from-zero}
+use Rattle.std.specs.Bool.{then_some}
+use Rattle.std.specs.List.{position_from, zip}
+use Rattle.std.specs.Option.{option_or}
+use Rattle.words.proofs.Differences.{unlike, paired}
 use Rattle.words.proofs.decoded.difference.Goals as goal
-use Rattle.words.proofs.decoded.difference.Goals.{then-i-words-via-then-i-words}
-use Rattle.words.proofs.decoded.difference.Goals.{then-i-words-via-else-i-words+then-words-i}
-
-pub returns-then-i-words : goal.returns-then-i-words
-returns-then-i-words c =
-    elim c.then-i-words.branch [
-      | then-i-words-via-then-i-words w ↦
-          found_end c.args.expected.now c.args.words.now c.loop-i.i c.loop-i.invariant c.loop-i-test.true
-          w.if-i-words.true
-      | then-i-words-via-else-i-words+then-words-i w ↦
-          found_other c.args.expected.now c.args.words.now c.loop-i.i c.loop-i.invariant c.loop-i-test.true
-          w.if-i-words.false w.if-words-i.true
-    ]
-
-pub loop-i-init : goal.loop-i-init
-loop-i-init c = shifted_none (differs c.args.expected.now c.args.words.now)
-
-pub loop-i-preserved : goal.loop-i-preserved
-loop-i-preserved c = same_more c.args.expected.now c.args.words.now c.loop-i.i c.loop-i.invariant c.loop-i-test.true
-    c.if-i-words.false c.if-words-i.false
 
 pub returns : goal.returns
-returns c = same_all c.args.expected.now c.args.words.now c.loop-i.i c.loop-i.invariant c.loop-i-test.false
+returns c =
+    let es = c.args.expected.now in
+    let ws = c.args.words.now in
+    c.or.ensures ∙ ap (λ o. option_or o c.then_some.result) (c.unlike.ensures ∙ position_from-zero unlike (zip es ws))
+    ∙ ap (option_or (position_from unlike 0 (zip es ws))) (c.then_some.ensures
+    ∙ ap (then_some (ltb (length ws) (length es))) (sym (add-zero (length ws)))) ∙ paired es ws

@@ -1,28 +1,32 @@
 use Rattle.std.proofs.Common.{[], ◌∷◌, length, get_or, vec_items, sym, refl, ap, ◌∙◌, subst, arith}
 use Rattle.std.proofs.lemmas.Slice.{pushed}
+use Rattle.std.proofs.lemmas.Result.{err_from_is_err_and}
 use Rattle.std.proofs.lemmas.Bool.{leb-true, leb-false}
 use Rattle.calls.specs.declared.call.Call.TheVariants.{Day}
 use Rattle.words.specs.Answers.{Replied, Unreplied}
 use Rattle.words.proofs.Wholes.{answer_more, answer_stop, answer_left, answer_all}
 use Rattle.words.proofs.journal.read_answers.Goals as goal
 
-pub returns-in-Err : goal.returns-in-Err
-returns-in-Err c =
+pub returns-in_err-answer : goal.returns-in_err-answer
+returns-in_err-answer c =
+    let p = err_from_is_err_and c.from_residual.result c.from_residual.ensures.1 in
+    let at = c.in_err-answer.field-0.0.place in
     let u = subst (λ ws. Unreplied (get_or c.args.calls.now c.loop-call.call-index Day) ws c.loop-call.reader.place
-    c.in-Err.at) c.loop-call.invariant.0 c.in-Err.ensures.read.0 in
-    answer_stop c.args.calls.now c.args.words.now
+    at) c.loop-call.invariant.0 c.in_err-answer.ensures.read.0 in
+    rw (p.1, p.2) (answer_stop c.args.calls.now c.args.words.now
     (vec_items c.loop-call.answers) c.loop-call.call-index c.loop-call.reader.place c.loop-call.invariant.1
-    c.loop-call-test.true c.in-Err.at u
+    c.loop-call-test.true at u)
 
 pub loop-call-preserved : goal.loop-call-preserved
 loop-call-preserved c =
+    let answer = c.in_ok-answer.field-0 in
     let u = subst (λ ws. Replied (get_or c.args.calls.now c.loop-call.call-index Day) ws c.loop-call.reader.place
-    c.in-Ok.answer c.answer.new.self.place) c.loop-call.invariant.0 c.in-Ok.ensures.read in
-    let items = pushed (c.in-Ok.answer ∷ []) refl c.in_ok-push-in-Ok.was c.push.ensures.items in (
-      c.in-Ok.ensures.same ∙ c.loop-call.invariant.0,
+    answer c.answer.new.self.place) c.loop-call.invariant.0 c.in_ok-answer.ensures.read in
+    let items = pushed (answer ∷ []) refl c.in_ok-push.was c.push.ensures.items in (
+      c.in_ok-answer.ensures.same ∙ c.loop-call.invariant.0,
       answer_more c.args.calls.now c.args.words.now
           (vec_items c.loop-call.answers) c.loop-call.call-index c.loop-call.reader.place c.loop-call.invariant.1
-          c.loop-call-test.true c.in-Ok.answer c.answer.new.self.place u (vec_items c.push.new.self) items,
+          c.loop-call-test.true answer c.answer.new.self.place u (vec_items c.push.new.self) items,
     )
 
 pub returns-then-not-is_done : goal.returns-then-not-is_done

@@ -1,24 +1,22 @@
-use Rattle.std.proofs.Common.{◌<◌, length, pos, sym, refl, ap, ◌∙◌, arith, rules}
+use Rattle.std.proofs.Common.{◌<◌, length, pos, sym, ap, ◌∙◌, arith, rules}
 use Rattle.std.proofs.lemmas.List.{length-set}
 use Rattle.std.proofs.lemmas.Int.{to_z-of_z}
 use Rattle.std.proofs.lemmas.Bool.{le-leb}
+use Rattle.std.proofs.lemmas.Result.{err_from_is_err_and}
 use Rattle.amounts.specs.Rows.{within}
 use Rattle.amounts.proofs.Sums.{so_far_at, so_far_more, so_far_all, within_set, within_fails}
 use Rattle.amounts.proofs.row.Row.plus.Goals as goal
 
-pub returns-in_default : goal.returns-in_default
-returns-in_default g c =
+pub returns-in_err-figures-clause-test : goal.returns-in_err-figures-clause-test
+returns-in_err-figures-clause-test g c =
     let i = c.loop-i.i in
     let xs = c.args.self.now.figures in
     let ys = c.args.more.now in
     let h : i < length xs = omega arith in
     let k : i < length ys = search rules in
     let a = so_far_at i xs ys (pos 0) in
-    record {
-      test = sym (within_fails g.row.LIMIT i xs ys (pos 0) h k (grind (arith, to_z-of_z)));
-      made = tt;
-      refused = refl;
-    }
+    let p = err_from_is_err_and c.from_residual.result c.from_residual.ensures.1 in
+    rw p.1 (sym (within_fails g.row.LIMIT i xs ys (pos 0) h k (grind (arith, to_z-of_z))))
 
 pub loop-i-preserved : goal.loop-i-preserved
 loop-i-preserved g c =
@@ -29,8 +27,8 @@ loop-i-preserved g c =
     let k : i < length ys = search rules in
     let a = so_far_at i xs ys (pos 0) in
     let s = so_far_more i xs ys (pos 0) h k in
-    let w = within_set g.row.LIMIT c.loop-i.figures i c.in-Some.sum c.loop-i.invariant.1
-    (le-leb _ _ c.in-Some.ensures.1) in
+    let w = within_set g.row.LIMIT c.loop-i.figures i c.in_ok-figures.field-0 c.loop-i.invariant.1
+    (le-leb _ _ c.in_ok-figures.ensures.1) in
     (grind (arith, to_z-of_z), grind (arith, to_z-of_z), grind (arith, to_z-of_z, length-set))
 
 pub returns : goal.returns

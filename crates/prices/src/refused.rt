@@ -1,0 +1,19 @@
+// What a maker refuses.
+use std::error::Error;
+use std::fmt;
+
+// A figure outside its range: refusal 5.
+#[derive(Clone, Copy, Debug, PartialEq, Eq)]
+pub struct OutOfRange;
+
+impl fmt::Display for OutOfRange {
+    ghost use Rattle.std.specs.Prelude.{Some, codes};
+
+    ghost output = { λ _. Some (codes "a figure is out of its range") };
+
+    fn fmt<W: fmt::Write>(&self, f: &mut fmt::Formatter<W>) -> fmt::Result {
+        f.write_str("a figure is out of its range")
+    }
+}
+
+impl Error for OutOfRange {}
