@@ -16,11 +16,11 @@ module _ (n limit : ℕ) (table : List (Row n limit)) (at : ℕ) (more : List �
   grown_at = ap (λ r. sums r more) (get_or-map (λ (r : Row n limit). r.figures) table at row [] h)
       ∙ ap (λ (r : Row n limit). sums r.figures more) (sym read)
 
-  pub row_done : (new : Row n limit) → within limit (sums row.figures more) ≡ true
+  pub row_done : (new : Row n limit) → true ≡ within limit (sums row.figures more)
       → new.figures ≡ sums row.figures more
       → Booked {T = Unit {0}} limit (rows_of n limit table) at more (Ok tt) (rows_of n limit (set table at new))
   row_done new w e = record {
-    test = sym (and_from _ _ (lt-ltb _ _ (simp length-map h)) (ap (within limit) grown_at ∙ w));
+    test = sym (and_from _ _ (lt-ltb _ _ (simp length-map h)) (ap (within limit) grown_at ∙ sym w));
     table = map-set (λ (r : Row n limit). r.figures) table at new
         ∙ ap (set (rows_of n limit table) at) (e ∙ sym grown_at);
     fault = tt;

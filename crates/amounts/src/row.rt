@@ -1,6 +1,9 @@
 // A row of whole numbers of fixed length, each within the limit of its kind.
-ghost use Rattle.std.specs.Prelude.{◌≡◌, ◌^◌, ◌<◌, true, length};
+ghost use Rattle.std.specs.Prelude.{◌≡◌, ◌^◌, ◌<◌, true, length, Some};
 ghost use Rattle.amounts.specs.Rows.{within};
+
+use std::error::Error;
+use std::fmt;
 
 // Gas, in m³.
 pub const GAS_LIMIT: u64 = 200_000_000;
@@ -8,9 +11,7 @@ pub const GAS_LIMIT: u64 = 200_000_000;
 // Charges, in micros.
 pub const CHARGE_LIMIT: u64 = 100_000_000_000_000;
 
-use std::error::Error;
-use std::fmt;
-
+// A row of N figures, each within LIMIT of 0.
 #[derive(Clone, Copy, Debug, PartialEq, Eq)]
 pub struct Row<const N: usize, const LIMIT: u64> {
     pub figures: [i64; N],
@@ -34,8 +35,8 @@ pub enum Fault<const LIMIT: u64> {
     PastLimit,
 }
 
+// What is written of a fault.
 impl<const LIMIT: u64> fmt::Display for Fault<LIMIT> {
-    ghost use Rattle.std.specs.Prelude.{Some};
     ghost use Rattle.amounts.specs.Faults.{fault_text};
 
     ghost output = { λ e. Some (fault_text e) };

@@ -30,6 +30,7 @@ pub fn book<const N: usize, const LIMIT: u64>(
 ) -> Result<(), Fault<LIMIT>>
     ensures { Booked LIMIT (rows_of N LIMIT table.old) at more.now result (rows_of N LIMIT table.new) }
 {
+    // Kept: tried; the proof did not close: after a slice's `get_mut` nothing is known of its elements.
     let row = table.get(at).ok_or(Fault::NoPlace)?;
     table[at] = row.plus(more)?;
     Ok(())

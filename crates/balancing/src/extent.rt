@@ -2,6 +2,7 @@
 ghost use Rattle.std.specs.Prelude.{◌≡◌, ◌*◌, ◌≤◌, is_some, IfSome};
 ghost use Rattle.balancing.specs.Terms.{is_term};
 
+// How much gas a term moves a day, and on how many days.
 #[derive(Clone, Copy, Debug, PartialEq, Eq)]
 pub struct Extent {
     pub mdv: u32,

@@ -6,6 +6,7 @@ use crate::extent::Extent;
 use crate::rule::BalancingRule;
 
 // The volumes carried and billed of a balance, by the rule's edges for the term.
+// Kept: a rule of the project needs it: the two volumes stay a pair.
 pub fn settle<R: BalancingRule>(rule: &R, extent: Extent, balance: i32) -> (i32, i64)
     ensures split { Split (R.band rule.now extent.mdv extent.days) balance result.0 result.1 }
     ensures worked { WorkedEdges }

@@ -7,6 +7,7 @@ use crate::edges::Edges;
 
 impl Edges {
     // The volumes carried and billed of a balance.
+    // Kept: a rule of the project needs it: the two volumes stay a pair.
     pub fn split(&self, balance: i32) -> (i32, i64)
         ensures { Split (band_of self.now) balance result.0 result.1 }
     {

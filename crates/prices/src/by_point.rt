@@ -3,6 +3,7 @@ ghost use Rattle.std.specs.Prelude.{◌≡◌};
 
 use crate::point::Point;
 
+// One figure for each point of receipt.
 #[derive(Clone, Copy, Debug, PartialEq, Eq)]
 pub struct ByPoint<T> {
     pub western: T,

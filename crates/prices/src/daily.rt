@@ -7,7 +7,7 @@ use crate::days::DayPrices;
 use crate::entry::entry;
 use crate::refused::OutOfRange;
 
-#[derive(Debug, Drop)]
+#[derive(Debug, Drop, PartialEq, Eq)]
 pub struct Daily {
     pub start: u32,
     pub prices: Vec<u32>,

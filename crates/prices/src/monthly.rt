@@ -8,7 +8,7 @@ use crate::entry::entry;
 use crate::refused::OutOfRange;
 use calendar::month_of;
 
-#[derive(Debug, Drop)]
+#[derive(Debug, Drop, PartialEq, Eq)]
 pub struct Monthly {
     pub prices: Vec<u32>,
     ghost fair: { is_monthly (vec_len prices) ≡ true },

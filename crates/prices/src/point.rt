@@ -6,6 +6,7 @@ ghost use Rattle.prices.specs.Points.{point_at, point_name, point_number};
 use crate::refused::OutOfRange;
 use std::fmt;
 
+// A point where gas is received.
 #[derive(Clone, Copy, Debug, PartialEq, Eq)]
 pub enum Point {
     Western = 1,

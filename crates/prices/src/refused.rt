@@ -1,4 +1,6 @@
 // What a maker refuses.
+ghost use Rattle.std.specs.Prelude.{Some, codes};
+
 use std::error::Error;
 use std::fmt;
 
@@ -6,9 +8,8 @@ use std::fmt;
 #[derive(Clone, Copy, Debug, PartialEq, Eq)]
 pub struct OutOfRange;
 
+// What is written of a refused figure.
 impl fmt::Display for OutOfRange {
-    ghost use Rattle.std.specs.Prelude.{Some, codes};
-
     ghost output = { λ _. Some (codes "a figure is out of its range") };
 
     fn fmt<W: fmt::Write>(&self, f: &mut fmt::Formatter<W>) -> fmt::Result {

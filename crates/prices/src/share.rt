@@ -8,7 +8,7 @@ use crate::refused::OutOfRange;
 use crate::source::{Lack, PriceSource};
 use crate::span::Span;
 
-#[derive(Debug, Drop)]
+#[derive(Debug, Drop, PartialEq, Eq)]
 pub struct Share<S> {
     pub percent: u32,
     pub source: S,

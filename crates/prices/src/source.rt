@@ -1,5 +1,5 @@
 // The trait of price sources, with its meaning.
-ghost use Rattle.std.specs.Prelude.{◌≡◌, ℕ, ◌≤◌};
+ghost use Rattle.std.specs.Prelude.{◌≡◌, ℕ, ◌≤◌, Some};
 ghost use Rattle.prices.specs.Quotes.{Quote, Fair};
 ghost use Rattle.prices.specs.declared.point.Point.{Point};
 
@@ -14,8 +14,8 @@ pub struct Lack {
     pub day: u32,
 }
 
+// What is written of a lack.
 impl fmt::Display for Lack {
-    ghost use Rattle.std.specs.Prelude.{Some};
     ghost use Rattle.prices.specs.Lacks.{lack_text};
 
     ghost output = { λ l. Some (lack_text l) };

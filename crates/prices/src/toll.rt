@@ -16,7 +16,7 @@ fn is_toll(toll: i32) -> bool
     (-1_000_000..=1_000_000).contains(&toll)
 }
 
-#[derive(Debug, Drop)]
+#[derive(Debug, Drop, PartialEq, Eq)]
 pub struct Toll<S> {
     pub tolls: Tolls,
     pub source: S,

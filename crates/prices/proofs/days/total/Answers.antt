@@ -10,7 +10,8 @@ loop-day-preserved g c =
     let price = g.D.DayPrices.posted c.args.prices.now in
     let e : Some c.from-sum.result ≡ price c.loop-day.day = grind arith in
     let f : c.from-sum.result ≤ 10000000 = rw (← e) at (g.met.D.DayPrices.fair c.args.prices.now c.loop-day.day) in
-    (omega arith, passed_more _ _ _ c.loop-day.sum c.loop-day.day c.from-sum.result (omega arith) e c.loop-day.invariant.1)
+    let day = c.loop-day.day in
+    (omega arith, passed_more _ _ _ c.loop-day.sum day c.from-sum.result (omega arith) e c.loop-day.invariant.1)
 
 pub returns-in_err-price : goal.returns-in_err-price
 returns-in_err-price g c =
