@@ -1,5 +1,5 @@
 -- The refusals' numbers and values.
-use Rattle.std.specs.Prelude.{ℕ, cond, Some, None, Option, ◌==◌}
+use Rattle.std.specs.Prelude.{ℕ, cond, List, [], ◌∷◌, ◌++◌, codes, decimal, Some, None, Option, ◌==◌}
 use Rattle.std.specs.Option.{option_map_or}
 use Rattle.amounts.specs.declared.row.Fault.{Fault}
 use Rattle.amounts.specs.declared.row.Fault.TheVariants.{NoPlace, PastLimit}
@@ -22,6 +22,25 @@ number_of GasLimit = 9
 number_of ChargeLimit = 10
 number_of (Lacking l) = 11
 number_of NoRoom = 19
+
+-- Each refusal's sentence. A cubic metre is written as m³, whose 3 has two bytes.
+abbrev pub sentence_of : Refusal → List ℕ
+sentence_of BadWord = codes "a word is of the wrong kind, unknown or missing"
+sentence_of LastDay = codes "the ledger stands at its last day"
+sentence_of NoTerm = codes "there is no such term"
+sentence_of WrongStatus = codes "the term's status does not allow it"
+sentence_of OutOfRange = codes "a figure is out of its range"
+sentence_of Full = codes "the table is full"
+sentence_of Overlap = codes "a term of the pool shares a day with it"
+sentence_of Untimely = codes "the day does not allow it yet"
+sentence_of GasLimit = codes "the balance would pass 200,000,000 m" ++ 194 ∷ 179 ∷ []
+sentence_of ChargeLimit = codes "a charge line would pass 100,000,000 dollars"
+sentence_of (Lacking l) = codes "a price is lacking"
+sentence_of NoRoom = codes "its answers do not fit the answer memory"
+
+-- A refusal is written as its number and its sentence.
+abbrev pub refusal_text : Refusal → List ℕ
+refusal_text r = decimal (number_of r) ++ (codes ": " ++ sentence_of r)
 
 -- the lack of a price, where that is why
 abbrev pub lack_of : Refusal → Option Lack

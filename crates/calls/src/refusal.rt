@@ -1,6 +1,6 @@
 // The refusals: each with its number and its rule's sentence, in one table.
-ghost use Rattle.std.specs.Prelude.{◌≡◌};
-ghost use Rattle.calls.specs.Refusals.{number_of, lack_of, refusal_at};
+ghost use Rattle.std.specs.Prelude.{◌≡◌, Some};
+ghost use Rattle.calls.specs.Refusals.{number_of, sentence_of, refusal_text, lack_of, refusal_at};
 ghost use Rattle.calls.specs.declared.refusal.Refusal.TheVariants.{Lacking};
 ghost use Rattle.calls.specs.Refusals.{gas_refusal, charge_refusal};
 
@@ -33,7 +33,8 @@ pub struct Rule {
 }
 
 fn stated(number: u32, sentence: &'static str) -> Rule
-    ensures { result.number ≡ number }
+    ensures number { result.number ≡ number }
+    ensures sentence { result.sentence.now ≡ sentence.now }
 {
     Rule { number, sentence }
 }
@@ -61,8 +62,10 @@ impl Refusal {
         }
     }
 
+    // The rule that it is given by.
     pub fn rule(&self) -> Rule
-        ensures { result.number ≡ number_of self.now }
+        ensures number { result.number ≡ number_of self.now }
+        ensures sentence { result.sentence.now ≡ sentence_of self.now }
     {
         match self {
             Refusal::BadWord => stated(1, "a word is of the wrong kind, unknown or missing"),
@@ -93,6 +96,8 @@ impl Refusal {
 
 // A refusal is written as its number and its sentence.
 impl fmt::Display for Refusal {
+    ghost output = { λ r. Some (refusal_text r) };
+
     fn fmt<W: fmt::Write>(&self, f: &mut fmt::Formatter<W>) -> fmt::Result {
         let Rule { number, sentence } = self.rule();
         write!(f, "{number}: {sentence}")

@@ -1,7 +1,7 @@
 // A term's status, with its number.
-ghost use Rattle.std.specs.Prelude.{◌≡◌, IfErr};
+ghost use Rattle.std.specs.Prelude.{◌≡◌, Some, IfErr};
 ghost use Rattle.std.specs.Result.{result_ok};
-ghost use Rattle.calls.specs.Statuses.{status_number, status_at};
+ghost use Rattle.calls.specs.Statuses.{status_number, status_at, status_name};
 
 use crate::numbers::UnknownNumber;
 use std::fmt;
@@ -37,6 +37,8 @@ impl TryFrom<u32> for Status {
 }
 
 impl fmt::Display for Status {
+    ghost output = { λ s. Some (status_name s) };
+
     fn fmt<W: fmt::Write>(&self, f: &mut fmt::Formatter<W>) -> fmt::Result {
         f.write_str(match self {
             Status::Waiting => "waiting",

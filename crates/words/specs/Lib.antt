@@ -4,6 +4,7 @@ pub mod Journal
 pub mod Kinds
 pub mod Laws
 pub mod Lists
+pub mod Misreads
 pub mod Reading
 pub mod Shapes
 pub mod Writing

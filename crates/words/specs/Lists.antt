@@ -1,5 +1,5 @@
 -- Writing lists of calls.
-use Rattle.std.specs.Prelude.{◌≡◌, ℕ, Bool, true, false, cond, ◌&&◌, List, [], ◌∷◌, ◌++◌, length}
+use Rattle.std.specs.Prelude.{◌≡◌, ℕ, Bool, true, false, cond, ◌&&◌, List, [], ◌∷◌, ◌++◌, length, codes}
 use Rattle.std.specs.Prelude.{is_ok, IfOk, IfErr, Ok, Err, vec_items, Result, Vec, nat_le}
 use Rattle.std.specs.declared.alloc.Global.{Global}
 use Rattle.calls.specs.declared.call.Call.{Call}
@@ -37,3 +37,8 @@ pub record Put {T : Type 0} (c : Call) (before : List ℕ) (r : Result T Unwritt
 abbrev pub WrittenAll : List Call → Result (Vec ℕ Global) Unwritten → Type 0
 WrittenAll cs (Ok v) = (vec_items v ≡ calls_words cs) × (writable cs ≡ true)
 WrittenAll cs (Err e) = Says (writable cs) e
+
+-- What is written of calls that were not.
+abbrev pub unwritten_text : Unwritten → List ℕ
+unwritten_text OutOfRange = codes "a figure or the number of words is out of range"
+unwritten_text NoMemory = codes "out of memory"

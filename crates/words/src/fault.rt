@@ -22,6 +22,11 @@ impl From<AllocError> for Unwritten {
 }
 
 impl fmt::Display for Unwritten {
+    ghost use Rattle.std.specs.Prelude.{Some};
+    ghost use Rattle.words.specs.Lists.{unwritten_text};
+
+    ghost output = { λ u. Some (unwritten_text u) };
+
     fn fmt<W: fmt::Write>(&self, f: &mut fmt::Formatter<W>) -> fmt::Result {
         f.write_str(match self {
             Unwritten::OutOfRange => "a figure or the number of words is out of range",

@@ -9,6 +9,11 @@ pub struct Misread {
 }
 
 impl fmt::Display for Misread {
+    ghost use Rattle.std.specs.Prelude.{Some};
+    ghost use Rattle.words.specs.Misreads.{misread_text};
+
+    ghost output = { λ m. Some (misread_text m) };
+
     fn fmt<W: fmt::Write>(&self, f: &mut fmt::Formatter<W>) -> fmt::Result {
         write!(
             f,

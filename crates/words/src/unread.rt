@@ -31,6 +31,11 @@ impl<T: Drop> From<AllocFailed<T>> for Unread {
 }
 
 impl fmt::Display for Unread {
+    ghost use Rattle.std.specs.Prelude.{Some};
+    ghost use Rattle.words.specs.Misreads.{unread_text};
+
+    ghost output = { λ u. Some (unread_text u) };
+
     fn fmt<W: fmt::Write>(&self, f: &mut fmt::Formatter<W>) -> fmt::Result {
         match self {
             Unread::Stop(misread) => write!(f, "{misread}"),

@@ -86,10 +86,7 @@ fn wrong_kinds_stop(rt: HostRuntime) -> Result<(), Fail> {
 
 #[test]
 fn room(rt: HostRuntime) -> Result<(), Fail> {
-    let mut calls = Vec::new(rt.alloc());
-    for _ in 0..8192 {
-        calls.push(Call::Day)?;
-    }
+    let mut calls = vec![in rt.alloc(); Call::Day; 8192]?;
     assert!(rt; write_calls(rt.alloc(), calls.as_slice()).is_ok());
     calls.push(Call::Day)?;
     assert!(rt; write_calls(rt.alloc(), calls.as_slice()).is_err());

@@ -1,7 +1,7 @@
 // Layers over ends and over layers, and the zones' sources.
-use crate::tests::figures::{daily, is_lack, is_price};
+use crate::tests::figures::daily;
 use crate::{reference, share_of_daily, toll_over_share};
-use prices::{Point, PriceSource, Reference, Share, Span, Toll, Tolls};
+use prices::{Lack, Point, PriceSource, Reference, Share, Span, Toll, Tolls};
 use std::test::Fail;
 use zones::{egd_excess, egd_overrun, egd_shortage, north_price};
 
@@ -15,55 +15,49 @@ const TOLLS: Tolls = Tolls {
 fn layers_over_layers(rt: HostRuntime) -> Result<(), Fail> {
     let span = Span::new(1, 2)?;
     let end = Reference::new(100_001)?;
-    is_price(
-        &rt,
+    assert_eq!(rt;
         Share::new(80, Share::new(120, end)?)?.price(Point::Dawn, span),
-        96_001,
-    )?;
-    is_price(
-        &rt,
+        Ok(96_001)
+    );
+    assert_eq!(rt;
         Share::new(120, Toll::new(TOLLS, end)?)?.price(Point::Dawn, span),
-        120_010,
-    )?;
-    is_price(
-        &rt,
+        Ok(120_010)
+    );
+    assert_eq!(rt;
         Toll::new(TOLLS, Share::new(120, end)?)?.price(Point::Dawn, span),
-        120_008,
-    )?;
-    is_price(
-        &rt,
+        Ok(120_008)
+    );
+    assert_eq!(rt;
         Toll::new(TOLLS, Toll::new(TOLLS, end)?)?.price(Point::Dawn, span),
-        100_015,
-    )?;
+        Ok(100_015)
+    );
     let top = Reference::new(10_000_000)?;
-    is_price(
-        &rt,
+    assert_eq!(rt;
         Share::new(300, top)?.price(Point::Dawn, span),
-        10_000_000,
-    )?;
-    is_price(
-        &rt,
+        Ok(10_000_000)
+    );
+    assert_eq!(rt;
         Toll::new(TOLLS, top)?.price(Point::Ontario, span),
-        10_000_000,
-    )?;
-    is_price(&rt, Toll::new(TOLLS, end)?.price(Point::Western, span), 0)
+        Ok(10_000_000)
+    );
+    assert_eq!(rt; Toll::new(TOLLS, end)?.price(Point::Western, span), Ok(0));
+    Ok(())
 }
 
 #[test]
 fn layers_over_a_list(rt: HostRuntime) -> Result<(), Fail> {
     let source = Toll::new(TOLLS, Share::new(50, daily(rt.alloc())?)?)?;
-    is_price(&rt, source.price(Point::Dawn, Span::new(1, 3)?), 50_008)?;
+    assert_eq!(rt; source.price(Point::Dawn, Span::new(1, 3)?), Ok(50_008));
     let overrun = egd_overrun(2, vec![in rt.alloc(); 100_000, 100_001, 100_001]?)?;
-    is_price(
-        &rt,
+    assert_eq!(rt;
         share_of_daily(&overrun, Point::Western, Span::new(2, 4)?),
-        150_002,
-    )?;
-    is_lack(
-        &rt,
+        Ok(150_002)
+    );
+    assert_eq!(rt;
         share_of_daily(&overrun, Point::Western, Span::new(2, 6)?),
-        5,
-    )
+        Err(Lack { day: 5 })
+    );
+    Ok(())
 }
 
 #[test]
@@ -80,11 +74,14 @@ fn zones_have_their_prices(rt: HostRuntime) -> Result<(), Fail> {
         (Point::Ontario, 178_072, 80_001, 800),
     ];
     for (point, short, over, least) in figures {
-        is_price(&rt, toll_over_share(&shortage, point, span), short)?;
-        is_price(&rt, toll_over_share(&excess, point, span), over)?;
-        is_price(&rt, toll_over_share(&excess, point, low), least)?;
-        is_lack(&rt, toll_over_share(&shortage, point, past), 61)?;
-        is_price(&rt, reference(&north, point, past), 123_456)?;
+        assert_eq!(rt; toll_over_share(&shortage, point, span), Ok(short));
+        assert_eq!(rt; toll_over_share(&excess, point, span), Ok(over));
+        assert_eq!(rt; toll_over_share(&excess, point, low), Ok(least));
+        assert_eq!(rt;
+            toll_over_share(&shortage, point, past),
+            Err(Lack { day: 61 })
+        );
+        assert_eq!(rt; reference(&north, point, past), Ok(123_456));
     }
     Ok(())
 }

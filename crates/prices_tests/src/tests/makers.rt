@@ -4,6 +4,12 @@ use prices::{Daily, Monthly, Reference, Share, Span, Toll, Tolls};
 use std::test::Fail;
 use zones::{egd_excess, egd_overrun, egd_shortage, north_price};
 
+const NONE: Tolls = Tolls {
+    western: 0,
+    dawn: 0,
+    ontario: 0,
+};
+
 #[test]
 fn bounds_of_figures(rt: HostRuntime) -> Result<(), Fail> {
     let spans = [
@@ -31,42 +37,19 @@ fn bounds_of_figures(rt: HostRuntime) -> Result<(), Fail> {
         (1_000_001, false),
     ];
     for (toll, made) in tolls {
-        assert_eq!(rt;
-            Toll::new(
-                Tolls {
-                    western: toll,
-                    dawn: 0,
-                    ontario: 0,
-                },
-                end,
-            )
-            .is_ok(),
-            made
-        );
-        assert_eq!(rt;
-            Toll::new(
-                Tolls {
-                    western: 0,
-                    dawn: toll,
-                    ontario: 0,
-                },
-                end,
-            )
-            .is_ok(),
-            made
-        );
-        assert_eq!(rt;
-            Toll::new(
-                Tolls {
-                    western: 0,
-                    dawn: 0,
-                    ontario: toll,
-                },
-                end,
-            )
-            .is_ok(),
-            made
-        );
+        for tolls in [
+            Tolls {
+                western: toll,
+                ..NONE
+            },
+            Tolls { dawn: toll, ..NONE },
+            Tolls {
+                ontario: toll,
+                ..NONE
+            },
+        ] {
+            assert_eq!(rt; Toll::new(tolls, end).is_ok(), made);
+        }
     }
     Ok(())
 }

@@ -1,6 +1,6 @@
 // Means over the days of a span.
-use crate::tests::figures::{daily, is_lack, is_price, monthly};
-use prices::{Daily, Point, PriceSource, Span};
+use crate::tests::figures::{daily, monthly};
+use prices::{Daily, Lack, Point, PriceSource, Span};
 use std::test::Fail;
 
 // One day; over 29 February; over a year's end; a year; and the whole span.
@@ -17,8 +17,8 @@ fn means_of_spans(rt: HostRuntime) -> Result<(), Fail> {
     ];
     for (from, to, by_day, by_month) in spans {
         let span = Span::new(from, to)?;
-        is_price(&rt, days.price(Point::Dawn, span), by_day)?;
-        is_price(&rt, months.price(Point::Western, span), by_month)?;
+        assert_eq!(rt; days.price(Point::Dawn, span), Ok(by_day));
+        assert_eq!(rt; months.price(Point::Western, span), Ok(by_month));
     }
     Ok(())
 }
@@ -31,16 +31,18 @@ fn first_missing_day(rt: HostRuntime) -> Result<(), Fail> {
         vec![in rt.alloc(); 5, 10_000_000, 10_000_001, 7, 10_000_001]?,
     )?;
     for (from, to, day) in [(11, 20, 13), (10, 11, 10), (14, 16, 15), (16, 17, 16)] {
-        is_lack(&rt, days.price(Point::Ontario, Span::new(from, to)?), day)?;
+        assert_eq!(rt;
+            days.price(Point::Ontario, Span::new(from, to)?),
+            Err(Lack { day })
+        );
     }
-    is_price(
-        &rt,
+    assert_eq!(rt;
         days.price(Point::Ontario, Span::new(11, 12)?),
-        5_000_003,
-    )?;
-    is_lack(
-        &rt,
+        Ok(5_000_003)
+    );
+    assert_eq!(rt;
         monthly(rt.alloc(), 2)?.price(Point::Dawn, Span::new(50, 100)?),
-        61,
-    )
+        Err(Lack { day: 61 })
+    );
+    Ok(())
 }
