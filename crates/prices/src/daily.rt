@@ -1,7 +1,7 @@
 // The daily end: a price for each day from a starting day on.
 ghost use Rattle.std.specs.Prelude.{◌≡◌, true, is_ok, IfOk, vec_len};
 ghost use Rattle.prices.specs.Ends.{is_daily, daily_price};
-ghost use Rattle.std.proofs.Common.{rules, arith};
+ghost use Rattle.prices.specs.Entries.{daily_fair};
 
 use crate::days::DayPrices;
 use crate::entry::entry;
@@ -30,7 +30,7 @@ impl Daily {
 impl DayPrices for Daily {
     ghost posted = { λ s. daily_price s.start s.prices.items };
 
-    ghost fair = { first_of (Prim.search rules, Prim.grind (arith, Self.row.coded.inj)) };
+    ghost fair = { λ s. daily_fair s.start s.prices.items };
 
     fn on(&self, day: u32) -> Option<u32> {
         entry(&self.prices, day.checked_sub(self.start)?)

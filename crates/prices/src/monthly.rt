@@ -1,7 +1,7 @@
 // The monthly end: a price for each month from January 2024 on.
 ghost use Rattle.std.specs.Prelude.{◌≡◌, true, is_ok, IfOk, vec_len};
 ghost use Rattle.prices.specs.Ends.{is_monthly, monthly_price};
-ghost use Rattle.std.proofs.Common.{rules, arith};
+ghost use Rattle.prices.specs.Entries.{monthly_fair};
 
 use crate::days::DayPrices;
 use crate::entry::entry;
@@ -30,7 +30,7 @@ impl Monthly {
 impl DayPrices for Monthly {
     ghost posted = { λ s. monthly_price s.prices.items };
 
-    ghost fair = { first_of (Prim.search rules, Prim.grind (arith, Self.row.coded.inj)) };
+    ghost fair = { λ s. monthly_fair s.prices.items };
 
     fn on(&self, day: u32) -> Option<u32> {
         entry(&self.prices, month_of(day)?)
