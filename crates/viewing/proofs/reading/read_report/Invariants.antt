@@ -1,4 +1,4 @@
-use Rattle.std.proofs.Common.{◌≡◌, vec_items}
+use Rattle.std.proofs.Common.{◌≡◌, ◌-◌, length, vec_items}
 use Rattle.viewing.specs.Shown.{Seen}
 use Rattle.viewing.proofs.reading.read_report.Given as goal
 
@@ -7,3 +7,6 @@ invariant-calls l =
     Seen l.journal l.answers (vec_items l.entries) l.day l.asked.place l.replies.place
     × (l.asked.words.now ≡ l.journal)
     × (l.replies.words.now ≡ l.answers)
+
+abbrev pub decreases-calls : goal.decreases-calls
+decreases-calls l = length l.journal - l.asked.place
