@@ -1,6 +1,6 @@
 -- What a ledger may be made with.
-use Rattle.std.specs.Prelude.{◌≡◌, ℕ, Bool, true, false, ◌&&◌, List, ◌++◌, codes, decimal, nat_le}
-use Rattle.calls.specs.Refusals.{number_of}
+use Rattle.std.specs.Prelude.{◌≡◌, ℕ, Bool, true, false, ◌&&◌, List, codes, nat_le}
+use Rattle.calls.specs.Refusals.{refusal_text}
 use Rattle.calls.specs.declared.refusal.Refusal.TheVariants.{OutOfRange}
 use Rattle.ledger.specs.Book.{Allowances}
 use Rattle.ledger.specs.declared.failing.NotMade.{NotMade}
@@ -17,5 +17,5 @@ Unmade allowances NoMemory = allowed allowances ≡ true
 
 -- What is written of a ledger that was not made.
 abbrev pub not_made_text : NotMade → List ℕ
-not_made_text (Refused r) = codes "refused with " ++ decimal (number_of r)
+not_made_text (Refused r) = refusal_text r
 not_made_text NoMemory = codes "out of memory"

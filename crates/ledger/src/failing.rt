@@ -39,7 +39,7 @@ impl fmt::Display for NotMade {
 
     fn fmt<W: fmt::Write>(&self, f: &mut fmt::Formatter<W>) -> fmt::Result {
         match self {
-            NotMade::Refused(refusal) => write!(f, "refused with {}", refusal.rule().number),
+            NotMade::Refused(refusal) => write!(f, "{refusal}"),
             NotMade::NoMemory => f.write_str("out of memory"),
         }
     }

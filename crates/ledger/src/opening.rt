@@ -32,7 +32,7 @@ impl Term {
             ..
         } = o;
         let point = Point::try_from(o.point).ok()?;
-        if pool < 1 || pool > 99_999 || mdv < 1 || mdv > 500_000 {
+        if !(1..=99_999).contains(&pool) || !(1..=500_000).contains(&mdv) {
             return None;
         }
         if first < today || first > last || last > 3400 || last - first >= 366 {

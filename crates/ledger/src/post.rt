@@ -121,6 +121,7 @@ impl Term {
         ensures { (gas lines : List ℤ) → (balance : ℤ) (after : List ℤ)
             → entry result (balance ∷ []) after ≡ posted (entry self.now gas lines) balance after }
     {
+        // Kept: tried; Rattle takes no `..*self` in a literal of a struct with ghost fields.
         let mut term = *self;
         term.next += 1;
         term
