@@ -38,12 +38,7 @@ fn exact_and_short_memory(rt: HostRuntime) -> Result<(), Fail> {
 #[test]
 fn terms_that_are_not_there(rt: HostRuntime) -> Result<(), Fail> {
     let heap = rt.alloc();
-    answers(
-        &rt,
-        &[PRICE, 0x1000_000A, 0x2000_0000],
-        0,
-        0x9000_0003,
-    )?;
+    answers(&rt, &[PRICE, 0x1000_000A, 0x2000_0000], 0, 0x9000_0003)?;
     let mut input = vec![in heap; PRICE]?;
     for pool in 1..65 {
         open(&mut input, pool)?;

@@ -62,11 +62,17 @@ impl fmt::Display for Asked {
             Call::Open(o) => {
                 let (pool, mdv) = (o.pool, o.mdv);
                 let (point, first, last) = (At(o.point), On(o.first), On(o.last));
-                write!(f, "open pool {pool} at {point}, MDV {mdv} m³, {first} to {last}")
+                write!(
+                    f,
+                    "open pool {pool} at {point}, MDV {mdv} m³, {first} to {last}"
+                )
             }
             Call::Post(p) => {
                 let (term, delivered, consumed) = (p.term, p.delivered, p.consumed);
-                write!(f, "post term {term}, delivered {delivered} m³, consumed {consumed} m³")
+                write!(
+                    f,
+                    "post term {term}, delivered {delivered} m³, consumed {consumed} m³"
+                )
             }
             Call::Statement { term } => write!(f, "statement of term {term}"),
         }
@@ -163,7 +169,12 @@ impl fmt::Display for Report {
         let booked = calls.saturating_sub(refused);
         write!(f, "{calls} calls: {booked} done, {refused} refused; ")?;
         match self.stop {
-            Some(stop) => write!(f, "reading stopped at word {}, {}", stop.place, Because(stop.refusal)),
+            Some(stop) => write!(
+                f,
+                "reading stopped at word {}, {}",
+                stop.place,
+                Because(stop.refusal)
+            ),
             None => f.write_str("read to the end"),
         }
     }

@@ -53,7 +53,11 @@ fn with_kind(number: u32, kinds: &[Kind], at: usize, kind: u32) -> [u32; 9] {
     let mut words = [0; 9];
     words[0] = word(Kind::Call, number);
     for (i, (figure, right)) in words[1..].iter_mut().zip(kinds).enumerate() {
-        *figure = if i == at { kind << 28 | 1 } else { word(*right, 1) };
+        *figure = if i == at {
+            kind << 28 | 1
+        } else {
+            word(*right, 1)
+        };
     }
     words
 }
@@ -109,7 +113,10 @@ fn answered(rt: &impl Abort, call: &Call, answer: &Answer, len: usize) -> Result
         if let Some(word) = spoilt.get_mut(place) {
             *word ^= 0xf000_0000;
         }
-        assert_eq!(rt; Reader::new(&spoilt).answer(call).err(), Some(Misread { place }));
+        assert_eq!(rt;
+            Reader::new(&spoilt).answer(call).err(),
+            Some(Misread { place })
+        );
     }
     Ok(())
 }
