@@ -24,27 +24,20 @@ impl Term {
             entry t (replicate 1 (pos 0)) (replicate 5 (pos 0))
             ≡ opened o.pool (unwrap_or (point_at o.point) Western) o.mdv o.first o.last) }
     {
-        let Opening {
-            pool,
-            mdv,
-            first,
-            last,
-            ..
-        } = o;
         let point = Point::try_from(o.point).ok()?;
-        if !(1..=99_999).contains(&pool) || !(1..=500_000).contains(&mdv) {
+        if !(1..=99_999).contains(&o.pool) || !(1..=500_000).contains(&o.mdv) {
             return None;
         }
-        if first < today || first > last || last > 3400 || last - first >= 366 {
+        if o.first < today || o.first > o.last || o.last > 3400 || o.last - o.first >= 366 {
             return None;
         }
         Some(Term {
-            pool,
+            pool: o.pool,
             point,
-            mdv,
-            first,
-            last,
-            next: first,
+            mdv: o.mdv,
+            first: o.first,
+            last: o.last,
+            next: o.first,
         })
     }
 
