@@ -1,6 +1,6 @@
 -- A run so far: what is written, before what is still to come.
 use Rattle.std.proofs.Common.{◌≡◌, ℕ, ◌+◌, ◌-◌, ◌<◌, ◌≤◌, List, [], ◌++◌, length, take, drop}
-use Rattle.std.proofs.Common.{Some, None, Ok, Err, Option, sym, refl, ap, ◌∙◌, arith}
+use Rattle.std.proofs.Common.{Some, None, Ok, Err, Option, sym, refl, ap, ◌∙◌, subst, arith}
 use Rattle.std.proofs.lemmas.List.{append_assoc, append-nil, length-append, length-take-le}
 use Rattle.std.proofs.lemmas.List.{length-drop, take-append-drop, take_at, drop_at, drop-drop, drop_all}
 use Rattle.std.proofs.lemmas.Bool.{cond-false, le-ltb}
@@ -12,6 +12,7 @@ use Rattle.ledger.specs.Calls.{Meaning, Meets, step}
 use Rattle.words.specs.Reading.{read_call, Used}
 use Rattle.words.specs.Writing.{answer_words}
 use Rattle.journal.specs.Runs.{Runs, answering, run_from, run}
+use Rattle.journal.specs.declared.ran.Ran.{Ran}
 use Rattle.journal.specs.declared.stop.Stop.{Stop}
 use Rattle.journal.proofs.Steps.{run_wrong, run_full, run_more}
 
@@ -45,31 +46,31 @@ back answers a written h =
     (front_length answers a written h)
 
 -- a run on its way: what it is so far, and the memory behind what is written as it was before
-pub record Going (m : Meaning) (words : List ℕ) (start : State) (before answers : List ℕ) (written place : ℕ)
+pub record Going (m : Meaning) (words : List ℕ) (room : ℕ) (start : State) (before answers : List ℕ) (written place : ℕ)
     (s : State) : Type 0 where
-  pub so_far : SoFar m words (length before) start answers written place s
+  pub so_far : SoFar m words room start answers written place s
   pub behind : drop written answers ≡ drop written before
   pub inside : written ≤ length answers
 
-module _ (m : Meaning) (words : List ℕ) (start : State) (before answers : List ℕ) (written place : ℕ) (s : State)
-    (going : Going m words start before answers written place s) where
+module _ (m : Meaning) (words : List ℕ) (room : ℕ) (start : State) (before answers : List ℕ) (written place : ℕ)
+    (s : State) (going : Going m words room start before answers written place s) where
   -- one call more
   goes_on : (read : Call × ℕ) → place < length words → read_call (drop place words) ≡ Ok read → 1 ≤ read.1
-      → length (answer_words (step m s read.0).answer) ≤ length before - written
-      → SoFar m words (length before) start (with_answer answers written (answer_words (step m s read.0).answer))
+      → length (answer_words (step m s read.0).answer) ≤ room - written
+      → SoFar m words room start (with_answer answers written (answer_words (step m s read.0).answer))
       (written + length (answer_words (step m s read.0).answer)) (place + read.1) (step m s read.0).after
   goes_on read h e some fits =
       let a = answer_words (step m s read.0).answer in
-      let left : length before - written - length a ≡ length before - (written + length a) = omega arith in
-      let more = run_more m (drop place words) place (length before - written) s read (simp length-drop (omega arith))
-      e some fits in
+      let left : room - written - length a ≡ room - (written + length a) = omega arith in
+      let more = run_more m (drop place words) place (room - written) s read (simp length-drop (omega arith)) e some
+      fits in
       rw (going.so_far, more, front answers a written going.inside, append_assoc, drop-drop read.1 place words, left)
 
   -- the same, by what reading, the call and the writing ensure
   pub step_on : (call : Call) (after : ℕ) (answer : Answer) (t : State) (encoded out : List ℕ) → place < length words
       → Used words place call after → Meets (step m s call) answer t → encoded ≡ answer_words answer
-      → length encoded ≤ length before - written → out ≡ with_answer answers written encoded
-      → written + length encoded ≤ length out → Going m words start before out (written + length encoded) after t
+      → length encoded ≤ room - written → out ≡ with_answer answers written encoded
+      → written + length encoded ≤ length out → Going m words room start before out (written + length encoded) after t
   step_on call after answer t encoded out h u met e fits o inside =
       let n : encoded ≡ answer_words (step m s call).answer = e ∙ ap answer_words met.answers in
       record {
@@ -81,36 +82,38 @@ module _ (m : Meaning) (words : List ℕ) (start : State) (before answers : List
         inside = inside;
       }
 
-  -- the run's end, by what is left of it: a journal of at most 8,192 words is read
-  module _ (short : length words ≤ 8192) where
-    ends : (stop : Option Stop) → run_from m (drop place words) place 0 (length before - written) s
-        ≡ record { after = s; words = []; stop = stop }
-        → Runs (run m words (length before) start) (record { written = written; stop = stop }) before answers s
-    ends stop e =
-        let read : run m words (length before) start ≡ run_from m words 0 0 (length before) start =
-        cond-false _ _ _ (le-ltb 8192 (length words) short) in
-        rw (read, going.so_far, e, append-nil) (record {
-          state = refl;
-          count = sym (length-take-le written answers going.inside);
-          memory = rw (← going.behind) (sym (take-append-drop written answers));
-          stops = refl;
-        })
+  -- the run's end, by what is left of it
+  ends : (stop : Option Stop) → run_from m (drop place words) place 0 (room - written) s
+      ≡ record { after = s; words = []; stop = stop }
+      → Runs (run_from m words 0 0 room start) (record { written = written; stop = stop }) before answers s
+  ends stop e =
+      rw (going.so_far, e, append-nil) (record {
+        state = refl;
+        count = sym (length-take-le written answers going.inside);
+        memory = rw (← going.behind) (sym (take-append-drop written answers));
+        stops = refl;
+      })
 
-    pub ends_whole : length words ≤ place
-        → Runs (run m words (length before) start) (record { written = written; stop = None }) before answers s
-    ends_whole h = ends None (rw (drop_all place words h))
+  pub ends_whole : length words ≤ place
+      → Runs (run_from m words 0 0 room start) (record { written = written; stop = None }) before answers s
+  ends_whole h = ends None (rw (drop_all place words h))
 
-    pub ends_wrong : (off at : ℕ) → place < length words → read_call (drop place words) ≡ Err off → at ≡ place + off
-        → Runs (run m words (length before) start)
-        (record { written = written; stop = Some (record { refusal = BadWord; place = at }) }) before answers s
-    ends_wrong off at h e here =
-        ends _ (rw here (run_wrong m (drop place words) place (length before - written) s off
-        (simp length-drop (omega arith)) e))
+  pub ends_wrong : (off at : ℕ) → place < length words → read_call (drop place words) ≡ Err off → at ≡ place + off
+      → Runs (run_from m words 0 0 room start)
+      (record { written = written; stop = Some (record { refusal = BadWord; place = at }) }) before answers s
+  ends_wrong off at h e here =
+      ends _ (rw here (run_wrong m (drop place words) place (room - written) s off (simp length-drop (omega arith)) e))
 
-    pub ends_full : (read : Call × ℕ) → place < length words → read_call (drop place words) ≡ Ok read
-        → length before - written < length (answer_words (step m s read.0).answer)
-        → Runs (run m words (length before) start)
-        (record { written = written; stop = Some (record { refusal = NoRoom; place = place }) }) before answers s
-    ends_full read h e full =
-        ends _ (run_full m (drop place words) place (length before - written) s read
-        (simp length-drop (omega arith)) e full)
+  pub ends_full : (read : Call × ℕ) → place < length words → read_call (drop place words) ≡ Ok read
+      → room - written < length (answer_words (step m s read.0).answer)
+      → Runs (run_from m words 0 0 room start)
+      (record { written = written; stop = Some (record { refusal = NoRoom; place = place }) }) before answers s
+  ends_full read h e full =
+      ends _ (run_full m (drop place words) place (room - written) s read (simp length-drop (omega arith)) e full)
+
+-- a journal of at most 8,192 words is read
+pub reads : (m : Meaning) (words : List ℕ) (room : ℕ) (start s : State) (r : Ran) (before answers : List ℕ)
+    → length words ≤ 8192 → Runs (run_from m words 0 0 room start) r before answers s
+    → Runs (run m words room start) r before answers s
+reads m words room start s r before answers h x =
+    subst (λ e. Runs e r before answers s) (sym (cond-false _ _ _ (le-ltb 8192 (length words) h))) x

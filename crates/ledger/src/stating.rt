@@ -32,6 +32,7 @@ impl Tables {
     }
 
     // States a term.
+    #[tactic(auto, using(crate::proofs::States::states))]
     pub(crate) fn state(&self, term: u32) -> Result<Stated, Refusal>
         ensures { Meets (statement_call (view self.now) term) (stated result) (view self.now) }
     {

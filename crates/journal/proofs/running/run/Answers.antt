@@ -3,18 +3,20 @@ use Rattle.std.proofs.lemmas.List.{length-drop}
 use Rattle.std.proofs.lemmas.Bool.{leb-false, leb-true}
 use Rattle.words.specs.Writing.{answer_words}
 use Rattle.journal.proofs.Near.{stop_near}
-use Rattle.journal.proofs.Loops.{step_on, ends_whole, ends_wrong, ends_full}
+use Rattle.journal.proofs.Loops.{step_on, ends_whole, ends_wrong, ends_full, reads}
 use Rattle.journal.proofs.running.run.Goals as goal
 
 pub returns-in-Err : goal.returns-in-Err
 returns-in-Err g c =
+    let m = g.Z.RateZone.means c.args.ledger.now.zone in
     let words = c.args.words.now in
     let inv = c.calls.invariant in
     let place = c.calls.reader.place in
     let h : place < length words = omega (arith, leb-false _ _ (sym c.calls-test.ensures), ap length inv.2) in
     let stop = rw inv.2 at c.in-Err.ensures.read.0 in
     rw c.stopped-in-Err.ensures (record {
-      ran = ends_wrong _ words _ _ _ _ place _ inv.0 c.if-words-gt8192.false stop.off _ h stop.read stop.here;
+      ran = reads m words _ _ _ _ _ _ c.if-words-gt8192.false
+          (ends_wrong m words _ _ _ _ _ place _ inv.0 stop.off _ h stop.read stop.here);
       near = omega (
         arith,
         stop.here,
@@ -34,8 +36,9 @@ returns-then-answers-written g c =
     let h : place < length words = omega (arith, leb-false _ _ (sym c.calls-test.ensures), ap length inv.2) in
     let used = rw inv.2 at c.in-Ok.ensures.read in
     rw c.stopped-then-answers-written.ensures (record {
-      ran = ends_full m words _ _ _ _ place _ inv.0 c.if-words-gt8192.false (c.in-Ok.call, used.used) h used.read
-          (omega (arith, c.answer_len.ensures m, c.calls.auto.answers));
+      ran = reads m words _ _ _ _ _ _ c.if-words-gt8192.false
+          (ends_full m words _ _ _ _ _ place _ inv.0 (c.in-Ok.call, used.used) h used.read
+          (omega (arith, c.answer_len.ensures m, c.calls.auto.answers)));
       near = omega (arith, c.if-words-gt8192.false);
       zone = inv.1;
     })
@@ -55,7 +58,7 @@ calls-preserved g c =
     ∙ sym (c.answer_len.ensures m) in
     let fits : length encoded ≤ length c.args.answers.now - c.calls.written =
     omega (arith, n, c.if-answers-written.false, c.calls.auto.answers) in (
-      rw c.len-written.ensures.value (step_on m words _ _ _ _ place _ inv.0 c.in-Ok.call _ _ _ encoded _ h used met
+      rw c.len-written.ensures.value (step_on m words _ _ _ _ _ place _ inv.0 c.in-Ok.call _ _ _ encoded _ h used met
           c.encode-answer.ensures.words fits (rw c.deref.ensures.0 at c.put.ensures)
           (omega (arith, fits, c.calls.auto.answers, c.put.auto.answers, inv.0.inside))),
       c.apply.ensures.zone ∙ inv.1,
@@ -64,11 +67,13 @@ calls-preserved g c =
 
 pub returns : goal.returns
 returns g c =
+    let m = g.Z.RateZone.means c.args.ledger.now.zone in
     let inv = c.calls.invariant in
     let h : length c.args.words.now ≤ c.calls.reader.place =
     omega (arith, leb-true _ _ (sym c.calls-test.ensures), ap length inv.2) in
     record {
-      ran = ends_whole _ c.args.words.now _ _ _ _ _ _ inv.0 c.if-words-gt8192.false h;
+      ran = reads m c.args.words.now _ _ _ _ _ _ c.if-words-gt8192.false
+          (ends_whole m c.args.words.now _ _ _ _ _ _ _ inv.0 h);
       near = tt;
       zone = inv.1;
     }
