@@ -7,6 +7,7 @@ use crate::row::Figures;
 use calls::{Call, Opening, Posting};
 
 // The figure at a place, and 0 past the last.
+// Kept: the new form is no plainer: a missing word reads as 0, and every reader of a figure wants just that.
 pub fn figure(figures: &[u32], i: usize) -> u32
     ensures { result ≡ slice_index figures.now i }
 {
