@@ -8,7 +8,7 @@ ghost use Rattle.words.specs.declared.kind.Kind.TheVariants.{Figure};
 ghost use Rattle.calls.specs.declared.call.Answer.TheVariants.{Stated};
 
 use crate::kind::Kind;
-use crate::packed::word;
+use crate::packed::{VALUES, word};
 use crate::row::Encoded;
 use calls::{Answer, Stated as Statement};
 
@@ -96,5 +96,5 @@ fn part_word(line: i64, part: u64) -> u32
 fn low(size: u64) -> u32
     ensures { result ≡ size % 268435456 }
 {
-    (size % 0x1000_0000) as u32
+    (size % u64::from(VALUES)) as u32
 }

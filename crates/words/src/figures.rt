@@ -14,6 +14,8 @@ pub fn figure(figures: &[u32], i: usize) -> u32
     figures.get(i).copied().unwrap_or(0)
 }
 
+// The call of a number and its figures; a number of no call makes day.
+// Kept: the new form is no plainer: a call word bears the number, as in the table of shapes.
 pub fn call_of(number: u32, figures: &[u32]) -> Call
     ensures { result ≡ call_of number figures.now }
 {
@@ -37,6 +39,8 @@ pub fn call_of(number: u32, figures: &[u32]) -> Call
     }
 }
 
+// The number that its call word bears.
+// Kept: the new form is no plainer: a call word bears the number, as in the table of shapes.
 pub fn number_of(call: &Call) -> u32
     ensures { result ≡ call_number call.now }
 {

@@ -24,7 +24,7 @@ pub use journal::{read_answers, read_calls};
 pub use kind::Kind;
 pub use laws::{answers_stand, calls_stand, journals_stand};
 pub use misread::Misread;
-pub use packed::{is_of, value_of, word};
+pub use packed::{VALUES, is_of, value_of, word};
 pub use reader::Reader;
 pub use row::{Encoded, Figures};
 pub use table::shape;
