@@ -2,11 +2,12 @@
 use Rattle.std.proofs.Common.{◌≡◌, ℕ, ◌+◌, ◌<◌, ◌≤◌, List, [], ◌∷◌, ◌++◌, length, get_or}
 use Rattle.std.proofs.Common.{drop, IfOk, Ok, Err, Result, sym, refl, ap, ◌∙◌, arith}
 use Rattle.std.proofs.lemmas.List.{append_assoc, append-nil, drop_all, drop_more}
-use Rattle.std.proofs.lemmas.List.{drop-drop, length-drop, at_drop_more, at_drop_all}
+use Rattle.std.proofs.lemmas.List.{drop-drop, length-append, length-drop, at_drop_more, at_drop_all}
 use Rattle.calls.specs.declared.call.Answer.{Answer}
 use Rattle.calls.specs.declared.call.Call.{Call}
 use Rattle.calls.specs.declared.call.Call.TheVariants.{Day}
 use Rattle.words.specs.Answers.{read_answer, read_answers, Replied, Unreplied}
+use Rattle.words.specs.Ends.{read_of}
 use Rattle.words.specs.Journal.{Reading, whole, halted, add, next, ended, read_by, read_calls}
 use Rattle.words.specs.Reading.{read_call, Used, Stopped}
 use Rattle.words.proofs.Codec.{Front, front}
@@ -18,6 +19,14 @@ behind xs place (halted ys at) = halted (xs ++ ys) (place + at)
 pub behind_none : {X : Type 0} (s : Reading X) → behind [] 0 s ≡ s
 behind_none (whole ys) = refl
 behind_none (halted ys at) = ap (halted ys) (omega arith)
+
+-- what was read so far is read of the whole: one call or answer at least
+pub kept_more : {X : Type 0} (xs : List X) (x : X) (place : ℕ) (s r : Reading X) → behind (xs ++ x ∷ []) place s ≡ r
+    → 1 ≤ length (read_of r)
+kept_more xs x place (whole ys) r e =
+    omega (arith, ap (λ s. length (read_of s)) e, length-append (xs ++ x ∷ []) ys, length-append xs (x ∷ []))
+kept_more xs x place (halted ys at) r e =
+    omega (arith, ap (λ s. length (read_of s)) e, length-append (xs ++ x ∷ []) ys, length-append xs (x ∷ []))
 
 behind_add : {X : Type 0} (xs : List X) (place : ℕ) (x : X) (used : ℕ) (s : Reading X)
     → behind xs place (add x used s) ≡ behind (xs ++ x ∷ []) (place + used) s

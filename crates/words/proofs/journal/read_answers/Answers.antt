@@ -4,7 +4,7 @@ use Rattle.std.proofs.lemmas.Result.{err_from_is_err_and}
 use Rattle.std.proofs.lemmas.Bool.{leb-true, leb-false}
 use Rattle.calls.specs.declared.call.Call.TheVariants.{Day}
 use Rattle.words.specs.Answers.{Replied, Unreplied}
-use Rattle.words.proofs.Wholes.{answer_more, answer_stop, answer_left, answer_all}
+use Rattle.words.proofs.Wholes.{kept_more, answer_more, answer_stop, answer_left, answer_all}
 use Rattle.words.proofs.journal.read_answers.Goals as goal
 
 pub returns-in_err-answer : goal.returns-in_err-answer
@@ -16,6 +16,17 @@ returns-in_err-answer c =
     rw (p.1, p.2) (answer_stop c.args.calls.now c.args.words.now
     (vec_items c.loop-call.answers) c.loop-call.call-index c.loop-call.reader.place c.loop-call.invariant.1
     c.loop-call-test.true at u)
+
+pub returns-in_err-push : goal.returns-in_err-push
+returns-in_err-push c =
+    let p = err_from_is_err_and c.from_residual-in_err-push.result c.from_residual-in_err-push.ensures.1 in
+    let answer = c.in_ok-answer.field-0 in
+    let u = subst (λ ws. Replied (get_or c.args.calls.now c.loop-call.call-index Day) ws c.loop-call.reader.place
+    answer c.answer.new.self.place) c.loop-call.invariant.0 c.in_ok-answer.ensures.read in
+    rw (p.1, p.2) (kept_more (vec_items c.loop-call.answers) answer c.answer.new.self.place _ _
+    (answer_more c.args.calls.now c.args.words.now
+    (vec_items c.loop-call.answers) c.loop-call.call-index c.loop-call.reader.place c.loop-call.invariant.1
+    c.loop-call-test.true answer c.answer.new.self.place u _ refl))
 
 pub loop-call-preserved : goal.loop-call-preserved
 loop-call-preserved c =
