@@ -1,8 +1,10 @@
 -- Writing lists of calls.
 use Rattle.std.specs.Prelude.{◌≡◌, ℕ, ◌+◌, ◌<◌, Bool, true, false, cond, ◌&&◌, List, [], ◌∷◌, ◌++◌, length, take, codes}
-use Rattle.std.specs.Prelude.{is_ok, IfOk, IfErr, Ok, Err, vec_items, Result, Vec, nat_le}
+use Rattle.std.specs.Prelude.{is_ok, IfOk, IfErr, Some, None, Ok, Err, vec_items, Option, Result, Vec, nat_le}
 use Rattle.std.specs.declared.alloc.Global.{Global}
 use Rattle.calls.specs.declared.call.Call.{Call}
+use Rattle.calls.specs.declared.refusal.Refusal.{Refusal}
+use Rattle.calls.specs.declared.refusal.Refusal.TheVariants as refusal
 use Rattle.words.specs.Shapes.{figures_of}
 use Rattle.words.specs.Writing.{call_words, fit}
 use Rattle.words.specs.declared.fault.Unwritten.{Unwritten}
@@ -49,6 +51,11 @@ UnwrittenAll cs NoMemory = Wanting cs
 abbrev pub WrittenAll : List Call → Result (Vec ℕ Global) Unwritten → Type 0
 WrittenAll cs (Ok v) = (vec_items v ≡ calls_words cs) × (writable cs ≡ true)
 WrittenAll cs (Err e) = UnwrittenAll cs e
+
+-- The refusal that it stands for: 5 where a figure or the number of words is out of range.
+abbrev pub unwritten_refusal : Unwritten → Option Refusal
+unwritten_refusal OutOfRange = Some refusal.OutOfRange
+unwritten_refusal NoMemory = None
 
 -- What is written of calls that were not.
 abbrev pub unwritten_text : Unwritten → List ℕ
