@@ -4,7 +4,7 @@ use Rattle.calls.specs.declared.call.Answer.{Answer}
 use Rattle.calls.specs.declared.call.Answer.TheVariants.{Done, Stated, Refused}
 use Rattle.calls.specs.declared.call.Call.{Call}
 use Rattle.calls.specs.declared.call.Call.TheVariants.{Day, Open, Post, Statement}
-use Rattle.words.specs.Answers.{read_answer}
+use Rattle.answers.specs.Answers.{read_answer}
 use Rattle.words.specs.Reading.{read_call}
 use Rattle.viewing.specs.declared.entry.Entry.{Entry}
 
