@@ -9,7 +9,7 @@ ghost use Rattle.calls.specs.declared.call.Answer.TheVariants.{Stated};
 
 use crate::row::Encoded;
 use calls::{Answer, Stated as Statement};
-use words::{Kind, word};
+use words::{Kind, VALUES, word};
 
 // An answer's words: two, or eighteen for a statement.
 pub fn encode(answer: &Answer) -> Encoded
@@ -95,5 +95,5 @@ fn part_word(line: i64, part: u64) -> u32
 fn low(size: u64) -> u32
     ensures { result ≡ size % 268435456 }
 {
-    (size % 0x1000_0000) as u32
+    (size % u64::from(VALUES)) as u32
 }

@@ -15,6 +15,8 @@ pub enum Call {
     Statement { term: u32 },
 }
 
+// What a call answers.
+// Kept: the new form is no plainer: an answer is one of three in its words, and the book's is compared with it whole.
 #[derive(Clone, Copy, Debug, PartialEq, Eq)]
 pub enum Answer {
     Done(u32),

@@ -106,6 +106,7 @@ impl fmt::Display for Refusal {
 
 impl Error for Refusal {}
 
+// Kept: the new form is no plainer: the two conversions differ in the refusal, which one for both would have to be told.
 impl From<Fault<GAS_LIMIT>> for Refusal {
     ghost from_gives = { λ e r. r ≡ gas_refusal e };
 

@@ -21,10 +21,7 @@ pub(crate) fn answer_len(tables: &Tables, call: &Call) -> usize
 fn statement_len(tables: &Tables, term: u32) -> usize
     ensures { result ≡ length (answer_words (statement_call (view tables.now) term).answer) }
 {
-    match tables.place(term) {
-        Ok(_) => 18,
-        Err(_) => 2,
-    }
+    if tables.place(term).is_ok() { 18 } else { 2 }
 }
 
 // Writes an answer's words into the memory from a place on.

@@ -27,6 +27,7 @@ pub fn run<Z: RateZone>(ledger: &mut Ledger<Z>, words: &[u32], answers: &mut [u3
     let mut reader = Reader::new(words);
     'calls: while !reader.is_done() {
         let place = reader.place;
+        // Kept: the new form is no plainer: by `?` the count of what was written would not come back with the stop.
         let call = match reader.call() {
             Ok(call) => call,
             Err(misread) => return stopped(written, Refusal::BadWord, misread.place),

@@ -16,7 +16,7 @@ use Rattle.ledger.specs.Plans.{Found, Ready, pricing, charging, gas_row, lines_r
 use Rattle.calls.specs.declared.call.Answer.TheVariants.{Done, Refused}
 use Rattle.calls.specs.Refusals.{charge_refusal}
 use Rattle.ledger.specs.View.{view, entry, entries}
-use Rattle.ledger.specs.declared.posting.Posting.{Posting}
+use Rattle.ledger.specs.declared.plan.Plan.{Plan}
 use Rattle.ledger.specs.declared.tables.Tables.{Tables}
 use Rattle.ledger.specs.declared.term.Term.{Term as Contract}
 use Rattle.ledger.proofs.Entries.{gas_level, lines_level, gas_grown, entries_set}
@@ -31,7 +31,7 @@ gas_tested t n i c net delivered consumed b found e w =
     rw (found.read, ← e) (rw (gas_grown t i net found.inside) at w)
 
 -- once the first tests are passed, what is left is the pricing
-pub planned : (q : Quote) (t : Tables) (n d c : ℕ) (p : Posting) → Found t n p.at p.term → p.delivered ≡ d
+pub planned : (q : Quote) (t : Tables) (n d c : ℕ) (p : Plan) → Found t n p.at p.term → p.delivered ≡ d
     → p.net ≡ pos d -ℤ pos c → p.term.next ≤ p.term.last → d ≤ 10000000 → c ≤ 10000000 → p.term.next < t.day
     → within 200000000 (grown (rows_of 1 200000000 (vec_items t.gas)) p.at (p.net ∷ [])) ≡ true
     → post_call q (view t) n d c ≡ pricing q t p
@@ -41,7 +41,7 @@ planned q t n d c p found f g unposted few less past w =
     grind (arith, nat_tests, found.read, fits, place)
 
 -- the tables with a posting written
-pub view_posted : (t : Tables) (p : Posting) (m : ℕ) (c : Contract) (gs ls : List (List ℤ)) → p.at < vec_len t.terms
+pub view_posted : (t : Tables) (p : Plan) (m : ℕ) (c : Contract) (gs ls : List (List ℤ)) → p.at < vec_len t.terms
     → ((gas lines : List ℤ) (balance : ℤ) (after : List ℤ)
     → entry c (balance ∷ []) after ≡ posted (entry p.term gas lines) balance after)
     → gs ≡ set (rows_of 1 200000000 (vec_items t.gas)) p.at
@@ -55,7 +55,7 @@ view_posted t p m c gs ls h k x y =
     ∙ k (gas_row t p.at) (lines_row t p.at) _ _))
 
 -- the three ways of booking a posting, by what its two bookings tell
-module _ (t : Tables) (p : Posting) (m : ℕ) (r : Ready t p) where
+module _ (t : Tables) (p : Plan) (m : ℕ) (r : Ready t p) where
   lines_inside : p.at < length (rows_of 5 100000000000000 (vec_items t.lines))
   lines_inside = omega (arith, lines_level t, t.terms.ok.0, r.inside)
 

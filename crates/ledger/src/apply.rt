@@ -16,9 +16,7 @@ impl<Z: RateZone> Ledger<Z> {
             (answered result) (view self.new.tables) }
         ensures zone { self.new.zone ≡ self.old.zone }
     {
-        let plan = self
-            .tables
-            .plan_post(day.term, day.delivered, day.consumed)?;
+        let plan = self.tables.plan_post(day)?;
         let owed = plan.owed(&self.zone)?;
         self.tables.book_post(plan, owed)
     }

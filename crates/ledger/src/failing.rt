@@ -9,6 +9,7 @@ use std::alloc::AllocError;
 use std::error::Error;
 use std::fmt;
 
+// Kept: the new form is no plainer: each of the three errors with `NoMemory` has reasons of its own, and its text by contract.
 #[derive(Clone, Copy, Debug, PartialEq, Eq)]
 pub enum NotMade {
     Refused(Refusal),

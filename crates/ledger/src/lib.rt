@@ -10,7 +10,7 @@ mod failing;
 mod making;
 mod opening;
 mod post;
-mod posting;
+mod plan;
 mod pricing;
 mod rate_zone;
 mod stating;

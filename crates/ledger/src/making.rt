@@ -12,6 +12,7 @@ use calls::Refusal;
 use std::alloc::{AllocError, Global};
 
 // Whether no allowance is above 10,000,000.
+// Kept: the new form is no plainer: three comparisons say it, and one test for each point would need a clause over closures.
 fn in_range(a: Allowances) -> bool
     ensures { result ≡ allowed a }
 {

@@ -41,19 +41,19 @@ impl Term {
         })
     }
 
-    // A term of this pool that shares a day with the span.
-    fn clashes(&self, pool: u32, first: u32, last: u32) -> bool
-        ensures { result ≡ clashes pool first last self.now }
+    // A term of the opening's pool that shares a day with it.
+    fn clashes(&self, o: Opening) -> bool
+        ensures { result ≡ clashes o.pool o.first o.last self.now }
     {
-        self.pool == pool && self.first <= last && first <= self.last
+        self.pool == o.pool && self.first <= o.last && o.first <= self.last
     }
 }
 
-// Some term of this pool shares a day with the span.
-fn overlaps(terms: &[Term], pool: u32, first: u32, last: u32) -> bool
-    ensures { result ≡ list_any (clashes pool first last) terms.now }
+// Some term of the opening's pool shares a day with it.
+fn overlaps(terms: &[Term], o: Opening) -> bool
+    ensures { result ≡ list_any (clashes o.pool o.first o.last) terms.now }
 {
-    terms.iter().any(|term| term.clashes(pool, first, last))
+    terms.iter().any(|term| term.clashes(o))
 }
 
 impl Tables {
@@ -65,7 +65,7 @@ impl Tables {
             (answered result) (view self.new) }
     {
         let term = Term::opened(self.day, o).ok_or(Refusal::OutOfRange)?;
-        if overlaps(&self.terms, o.pool, o.first, o.last) {
+        if overlaps(&self.terms, o) {
             return Err(Refusal::Overlap);
         }
         if self.terms.len() >= 64 {

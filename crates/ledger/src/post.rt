@@ -12,16 +12,16 @@ ghost use Rattle.calls.specs.declared.call.Answer.{Answer};
 ghost use Rattle.calls.specs.declared.refusal.Refusal.TheVariants.{NoTerm, GasLimit};
 
 use crate::booking::enter;
-use crate::posting::Posting;
+use crate::plan::Plan;
 use crate::tables::Tables;
 use crate::term::Term;
-use calls::Refusal;
+use calls::{Posting, Refusal};
 
 // What a day adds to a balance.
-fn net_of(delivered: u32, consumed: u32) -> i64
-    ensures { result ≡ pos delivered -ℤ pos consumed }
+fn net_of(day: Posting) -> i64
+    ensures { result ≡ pos day.delivered -ℤ pos day.consumed }
 {
-    delivered as i64 - consumed as i64
+    i64::from(day.delivered) - i64::from(day.consumed)
 }
 
 // A charge on line 1.
@@ -69,48 +69,43 @@ impl Tables {
     }
 
     // The posting, if the tests before its price are passed.
-    pub(crate) fn plan_post(
-        &self,
-        term: u32,
-        delivered: u32,
-        consumed: u32,
-    ) -> Result<Posting, Refusal>
+    pub(crate) fn plan_post(&self, day: Posting) -> Result<Plan, Refusal>
         ensures { MatchResult result
             (λ p. Ready self.now p
-            × ((q : Quote) → post_call q (view self.now) term delivered consumed ≡ pricing q self.now p))
-            (λ e. (q : Quote)
-            → Meets (post_call q (view self.now) term delivered consumed) (Answer.Refused e) (view self.now)) }
+            × ((q : Quote) → post_call q (view self.now) day.term day.delivered day.consumed ≡ pricing q self.now p))
+            (λ e. (q : Quote) → Meets
+            (post_call q (view self.now) day.term day.delivered day.consumed) (Answer.Refused e) (view self.now)) }
     {
-        let (at, row) = self.row(term)?;
+        let (at, row) = self.row(day.term)?;
         if row.next > row.last {
             return Err(Refusal::WrongStatus);
         }
-        if delivered > 10_000_000 || consumed > 10_000_000 {
+        if day.delivered > 10_000_000 || day.consumed > 10_000_000 {
             return Err(Refusal::OutOfRange);
         }
         if row.next >= self.day {
             return Err(Refusal::Untimely);
         }
-        let net = net_of(delivered, consumed);
+        let net = net_of(day);
         self.test_gas(at, net)?;
-        Ok(Posting {
+        Ok(Plan {
             at,
             term: row,
-            delivered,
+            delivered: day.delivered,
             net,
         })
     }
 
     // Books a posting: its charge line, then its gas, then its day, which it answers.
-    pub(crate) fn book_post(&mut self, posting: Posting, owed: u64) -> Result<u32, Refusal>
-        requires ready { Ready self.old posting }
+    pub(crate) fn book_post(&mut self, plan: Plan, owed: u64) -> Result<u32, Refusal>
+        requires ready { Ready self.old plan }
         requires sum { owed < 2 ^ 62 }
-        ensures { Meets (charging self.old posting owed) (answered result) (view self.new) }
+        ensures { Meets (charging self.old plan owed) (answered result) (view self.new) }
     {
-        enter(&mut self.lines, posting.at, &overrun(owed))?;
-        enter(&mut self.gas, posting.at, &[posting.net])?;
-        self.terms[posting.at] = posting.term.posted();
-        Ok(posting.term.next)
+        enter(&mut self.lines, plan.at, &overrun(owed))?;
+        enter(&mut self.gas, plan.at, &[plan.net])?;
+        self.terms[plan.at] = plan.term.posted();
+        Ok(plan.term.next)
     }
 }
 
@@ -121,7 +116,6 @@ impl Term {
         ensures { (gas lines : List ℤ) → (balance : ℤ) (after : List ℤ)
             → entry result (balance ∷ []) after ≡ posted (entry self.now gas lines) balance after }
     {
-        // Kept: tried; Rattle takes no `..*self` in a literal of a struct with ghost fields.
         let mut term = *self;
         term.next += 1;
         term

@@ -2,11 +2,12 @@
 ghost use Rattle.std.specs.Prelude.{◌≡◌, ◌^◌, ◌<◌, IfOk};
 ghost use Rattle.ledger.specs.Plans.{due};
 
-use crate::posting::Posting;
+use crate::plan::Plan;
 use crate::rate_zone::RateZone;
 use prices::{Lack, Span};
 
-impl Posting {
+impl Plan {
+    // Kept: the new form is no plainer: a type for what is owed would serve one number between two private functions.
     // What is short of the MDV, at the day's price; where nothing is short no price is sought.
     pub(crate) fn owed<Z: RateZone>(&self, zone: &Z) -> Result<u64, Lack>
         ensures value { result ≡ due (Z.means zone.now).overrun self.now }

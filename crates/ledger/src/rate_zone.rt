@@ -17,6 +17,7 @@ pub trait RateZone {
     fn edges(&self, extent: Extent) -> Edges
         ensures { band_of result ≡ (means self.now).band extent.mdv extent.days };
 
+    // Kept: the new form is no plainer: three sources with three names; which one a call asks is what the rules say.
     // The overrun price at a point over a span, or the day that lacks one.
     fn overrun(&self, point: Point, span: Span) -> Result<u32, Lack>
         ensures { result ≡ (means self.now).overrun point span.from span.to };

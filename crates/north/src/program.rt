@@ -10,7 +10,7 @@ use journal::{Stop, run};
 use ledger::NotMade;
 use octets::{bytes_of, words_in};
 use std::alloc::Global;
-use words::{Kind, word};
+use words::{Kind, VALUES, word};
 use zones::north_ledger;
 
 // A place in the input is the journal's plus 1.
@@ -83,7 +83,7 @@ fn words_of(stop: Stop) -> [u32; 2]
 {
     [
         word(Kind::Refused, stop.refusal.rule().number),
-        word(Kind::Number, (stop.place % 0x1000_0000) as u32),
+        word(Kind::Number, (stop.place % VALUES as usize) as u32),
     ]
 }
 

@@ -1,5 +1,5 @@
 // Journals and figures at the ends of their ranges.
-use crate::tools::{DAY, PRICE, answers, open, post, stops};
+use crate::tools::{DAY, PRICE, answer, open, post, stop};
 use std::alloc::Global;
 use std::test::Fail;
 
@@ -13,10 +13,11 @@ fn days(heap: Global, count: usize) -> Result<Vec<u32>, Fail> {
 #[test]
 fn long_journals(rt: HostRuntime) -> Result<(), Fail> {
     let heap = rt.alloc();
-    answers(&rt, &days(heap, 4096)?, 8190, 0x9000_0002)?;
-    stops(&rt, &days(heap, 4097)?, 19, 4097)?;
-    stops(&rt, &days(heap, 8192)?, 19, 4097)?;
-    stops(&rt, &days(heap, 8193)?, 5, 1)
+    assert_eq!(rt; answer(heap, &days(heap, 4096)?, 8190)?, 0x9000_0002);
+    assert_eq!(rt; stop(heap, &days(heap, 4097)?)?, (19, 4097));
+    assert_eq!(rt; stop(heap, &days(heap, 8192)?)?, (19, 4097));
+    assert_eq!(rt; stop(heap, &days(heap, 8193)?)?, (5, 1));
+    Ok(())
 }
 
 #[test]
@@ -38,16 +39,20 @@ fn exact_and_short_memory(rt: HostRuntime) -> Result<(), Fail> {
 #[test]
 fn terms_that_are_not_there(rt: HostRuntime) -> Result<(), Fail> {
     let heap = rt.alloc();
-    answers(&rt, &[PRICE, 0x1000_000A, 0x2000_0000], 0, 0x9000_0003)?;
+    assert_eq!(rt;
+        answer(heap, &[PRICE, 0x1000_000A, 0x2000_0000], 0)?,
+        0x9000_0003
+    );
     let mut input = vec![in heap; PRICE]?;
     for pool in 1..65 {
         open(&mut input, pool)?;
     }
     input.extend_from_slice(&[0x1000_000A, 0x2000_0041])?;
-    answers(&rt, &input, 126, 0x8000_0040)?;
-    answers(&rt, &input, 128, 0x9000_0003)?;
+    assert_eq!(rt; answer(heap, &input, 126)?, 0x8000_0040);
+    assert_eq!(rt; answer(heap, &input, 128)?, 0x9000_0003);
     open(&mut input, 65)?;
-    answers(&rt, &input, 130, 0x9000_0006)
+    assert_eq!(rt; answer(heap, &input, 130)?, 0x9000_0006);
+    Ok(())
 }
 
 #[test]
@@ -56,7 +61,7 @@ fn posting(rt: HostRuntime) -> Result<(), Fail> {
     let mut input = vec![in heap; PRICE]?;
     open(&mut input, 1)?;
     post(&mut input, 1, 0)?;
-    answers(&rt, &input, 2, 0x9000_0008)?;
+    assert_eq!(rt; answer(heap, &input, 2)?, 0x9000_0008);
     input.extend_from_slice(&[DAY; 25])?;
     post(&mut input, 10_000_001, 0)?;
     for _ in 0..20 {
@@ -64,8 +69,9 @@ fn posting(rt: HostRuntime) -> Result<(), Fail> {
     }
     post(&mut input, 1, 0)?;
     input.extend_from_slice(&[0x1000_000A, 0x2000_0001])?;
-    answers(&rt, &input, 54, 0x9000_0005)?;
-    answers(&rt, &input, 94, 0x8000_0014)?;
-    answers(&rt, &input, 96, 0x9000_0009)?;
-    answers(&rt, &input, 104, 0x6BEB_C200)
+    assert_eq!(rt; answer(heap, &input, 54)?, 0x9000_0005);
+    assert_eq!(rt; answer(heap, &input, 94)?, 0x8000_0014);
+    assert_eq!(rt; answer(heap, &input, 96)?, 0x9000_0009);
+    assert_eq!(rt; answer(heap, &input, 104)?, 0x6BEB_C200);
+    Ok(())
 }

@@ -1,25 +1,25 @@
 // What the tests share: inputs by their words, and what is looked for in an output.
 use north::run_words;
+use std::alloc::Global;
 use std::test::Fail;
 
 pub const PRICE: u32 = 0x6002_49F0;
 
 pub const DAY: u32 = 0x1000_0001;
 
-// The run stops with this number at this place.
-pub fn stops(rt: &HostRuntime, input: &[u32], number: u32, place: usize) -> Result<(), Fail> {
-    let stop = run_words(rt.alloc(), input)?.stop.ok_or("read to the end")?;
-    assert_eq!(rt; stop.refusal.rule().number, number);
-    assert_eq!(rt; stop.place, place);
-    Ok(())
+// The number and the place at which a run stops.
+pub fn stop(heap: Global, input: &[u32]) -> Result<(u32, usize), Fail> {
+    let stop = run_words(heap, input)?.stop.ok_or("read to the end")?;
+    Ok((stop.refusal.rule().number, stop.place))
 }
 
-// The run is read to its end, and this word stands at this place of the answers.
-pub fn answers(rt: &HostRuntime, input: &[u32], at: usize, word: u32) -> Result<(), Fail> {
-    let output = run_words(rt.alloc(), input)?;
-    assert!(rt; output.stop.is_none());
-    assert_eq!(rt; output.words.get(at).copied(), Some(word));
-    Ok(())
+// The word at a place of the answers of a run, which is read to its end.
+pub fn answer(heap: Global, input: &[u32], at: usize) -> Result<u32, Fail> {
+    let output = run_words(heap, input)?;
+    if output.stop.is_some() {
+        return Err(Fail::new("stopped"));
+    }
+    Ok(output.words.get(at).copied().ok_or("no such word")?)
 }
 
 // Adds an open call: a pool at Dawn with an MDV of 1 and thirty days from day 1 on.

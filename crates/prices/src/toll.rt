@@ -23,6 +23,7 @@ pub struct Toll<S> {
     ghost fair: { are_tolls tolls ≡ true },
 }
 
+// Kept: the new form is no plainer: three tests say it, and one for each point would need a clause over closures.
 impl<S: Drop> Toll<S> {
     // The source with these tolls, refused where one is below -1,000,000 or above 1,000,000.
     pub fn new(tolls: Tolls, source: S) -> Result<Toll<S>, OutOfRange>

@@ -9,6 +9,8 @@ mod tests;
 
 use prices::{Daily, Lack, Monthly, Point, PriceSource, Reference, Share, Span, Toll};
 
+// Kept: the new form is no plainer: each of the three shows one definition, over its own type.
+
 // A share of daily prices answers what it means.
 pub(crate) fn share_of_daily(source: &Share<Daily>, point: Point, span: Span) -> Result<u32, Lack>
     ensures { result ≡ share_means daily_means source.now point span.from span.to }

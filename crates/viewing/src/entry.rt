@@ -1,7 +1,7 @@
 // One call of a run: the day on which it was made, what was asked and what was answered.
 use calls::{Answer, Call};
 
-#[derive(Clone, Copy)]
+#[derive(Clone, Copy, Debug, PartialEq, Eq)]
 pub struct Entry {
     pub day: u32,
     pub call: Call,

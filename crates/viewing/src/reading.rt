@@ -9,7 +9,7 @@ use journal::Stop;
 use std::alloc::{AllocError, Global};
 use words::Reader;
 
-#[derive(Drop)]
+#[derive(Debug, PartialEq, Eq, Drop)]
 pub struct Report {
     pub entries: Vec<Entry>,
     pub stop: Option<Stop>,

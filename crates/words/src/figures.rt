@@ -7,12 +7,15 @@ use crate::row::Figures;
 use calls::{Call, Opening, Posting};
 
 // The figure at a place, and 0 past the last.
+// Kept: the new form is no plainer: a missing word reads as 0, and every reader of a figure wants just that.
 pub fn figure(figures: &[u32], i: usize) -> u32
     ensures { result ≡ slice_index figures.now i }
 {
     figures.get(i).copied().unwrap_or(0)
 }
 
+// The call of a number and its figures; a number of no call makes day.
+// Kept: the new form is no plainer: a call word bears the number, as in the table of shapes.
 pub fn call_of(number: u32, figures: &[u32]) -> Call
     ensures { result ≡ call_of number figures.now }
 {
@@ -36,6 +39,8 @@ pub fn call_of(number: u32, figures: &[u32]) -> Call
     }
 }
 
+// The number that its call word bears.
+// Kept: the new form is no plainer: a call word bears the number, as in the table of shapes.
 pub fn number_of(call: &Call) -> u32
     ensures { result ≡ call_number call.now }
 {

@@ -21,7 +21,7 @@ pub use journal::read_calls;
 pub use kind::Kind;
 pub use laws::{calls_stand, journals_stand};
 pub use misread::Misread;
-pub use packed::{is_of, value_of, word};
+pub use packed::{VALUES, is_of, value_of, word};
 pub use reader::Reader;
 pub use row::Figures;
 pub use table::shape;

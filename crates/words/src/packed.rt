@@ -4,11 +4,14 @@ ghost use Rattle.words.specs.Kinds.{kind_number, kind_in, value_in, word};
 
 use crate::kind::Kind;
 
+// A word holds this many values: 2 ^ 28.
+pub const VALUES: u32 = 0x1000_0000;
+
 // The word of a kind and a value; of a value past 28 bits it holds the low 28.
 pub fn word(kind: Kind, value: u32) -> u32
     ensures { result ≡ word kind value }
 {
-    u32::from(kind) * 0x1000_0000 + value_of(value)
+    u32::from(kind) * VALUES + value_of(value)
 }
 
 // The low 28 bits.

@@ -6,13 +6,10 @@ ghost use Rattle.words.specs.Writing.{call_words, fit};
 
 use crate::figures::{figures_of, number_of};
 use crate::kind::Kind;
-use crate::packed::word;
+use crate::packed::{VALUES, word};
 use crate::row::Written;
 use crate::table::shape;
 use calls::Call;
-
-// A word holds this many values: 2 ^ 28.
-const VALUES: u32 = 0x1000_0000;
 
 // Whether every figure fits 28 bits.
 pub fn fits(figures: &[u32]) -> bool

@@ -103,16 +103,14 @@ fn answered(rt: &impl Abort, call: &Call, answer: &Answer, len: usize) -> Result
     let encoded = encode(answer);
     assert_eq!(rt; encoded.len(), len);
     let mut words = [0; 18];
-    for (place, word) in words.iter_mut().zip(&encoded) {
-        *place = *word;
-    }
+    words[..encoded.len()].copy_from_slice(&encoded);
     let mut reader = Reader::new(&words);
     assert_eq!(rt; answer_at(&mut reader, call)?, *answer);
     assert_eq!(rt; reader.place, len);
-    for (place, _) in encoded.iter().enumerate() {
+    for (place, word) in encoded.iter().enumerate() {
         let mut spoilt = words;
-        if let Some(word) = spoilt.get_mut(place) {
-            *word ^= 0xf000_0000;
+        if let Some(at) = spoilt.get_mut(place) {
+            *at = *word ^ 0xf000_0000;
         }
         assert_eq!(rt;
             answer_at(&mut Reader::new(&spoilt), call).err(),

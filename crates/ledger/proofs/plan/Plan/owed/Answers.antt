@@ -1,6 +1,6 @@
 use Rattle.std.proofs.Common.{◌-◌, ◌≤◌, arith}
 use Rattle.std.proofs.lemmas.Nat.{mul-le}
-use Rattle.ledger.proofs.posting.Posting.owed.Goals as goal
+use Rattle.ledger.proofs.plan.Plan.owed.Goals as goal
 
 pub returns-clause-most : goal.returns-clause-most
 returns-clause-most g c =

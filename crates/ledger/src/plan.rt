@@ -1,8 +1,8 @@
-// A posting whose first tests are passed: the term and its place, what was delivered, and what the day adds to its gas.
+// A posting that is planned, its first tests passed: the term and its place, what was delivered, and what the day adds to its gas.
 use crate::term::Term;
 
 #[derive(Clone, Copy, Debug, PartialEq, Eq)]
-pub struct Posting {
+pub struct Plan {
     pub at: usize,
     pub term: Term,
     pub delivered: u32,
