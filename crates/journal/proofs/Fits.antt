@@ -18,7 +18,7 @@ use Rattle.ledger.specs.declared.term.Term.{Term as Contract}
 use Rattle.ledger.proofs.Entries.{term_count, term_holds}
 use Rattle.prices.specs.Quotes.{Fair}
 use Rattle.prices.specs.declared.source.Lack.{Lack}
-use Rattle.words.specs.Answers.{answer_fits, line_highs}
+use Rattle.answers.specs.Answers.{answer_fits, line_highs}
 use Rattle.words.specs.Writing.{fit}
 use Rattle.journal.specs.Laws.{AnswersFit}
 

@@ -5,7 +5,7 @@ use Rattle.calls.specs.declared.call.Call.TheVariants.{Day, Open, Post, Statemen
 use Rattle.ledger.specs.Book.{State, missing, term_at}
 use Rattle.ledger.specs.Calls.{Meaning, day_call, open_call, post_call, statement_call, step}
 use Rattle.prices.specs.Quotes.{Quote}
-use Rattle.words.specs.Writing.{answer_words, lines_words}
+use Rattle.answers.specs.Writing.{answer_words, lines_words}
 
 two_each : (xs : List ℤ) → length (lines_words xs) ≡ 2 * length xs
 two_each [] = refl

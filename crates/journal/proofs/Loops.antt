@@ -10,7 +10,7 @@ use Rattle.calls.specs.declared.refusal.Refusal.TheVariants.{BadWord, NoRoom}
 use Rattle.ledger.specs.Book.{State}
 use Rattle.ledger.specs.Calls.{Meaning, Meets, step}
 use Rattle.words.specs.Reading.{read_call, Used}
-use Rattle.words.specs.Writing.{answer_words}
+use Rattle.answers.specs.Writing.{answer_words}
 use Rattle.journal.specs.Runs.{Runs, answering, run_from, run}
 use Rattle.journal.specs.declared.ran.Ran.{Ran}
 use Rattle.journal.specs.declared.stop.Stop.{Stop}

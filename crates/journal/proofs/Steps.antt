@@ -7,7 +7,7 @@ use Rattle.calls.specs.declared.refusal.Refusal.TheVariants.{BadWord, NoRoom}
 use Rattle.ledger.specs.Book.{State}
 use Rattle.ledger.specs.Calls.{Meaning, step}
 use Rattle.words.specs.Reading.{read_call}
-use Rattle.words.specs.Writing.{answer_words}
+use Rattle.answers.specs.Writing.{answer_words}
 use Rattle.journal.specs.Runs.{stopped, answering, run_from}
 
 module _ (m : Meaning) where

@@ -5,7 +5,7 @@ use Rattle.ledger.specs.Calls.{Meaning, step}
 use Rattle.ledger.specs.Laws.{FairSource}
 use Rattle.ledger.specs.View.{view}
 use Rattle.ledger.specs.declared.tables.Tables.{Tables}
-use Rattle.words.specs.Answers.{answer_fits}
+use Rattle.answers.specs.Answers.{answer_fits}
 
 -- Every answer is one that its call can have, and its figures fit 28 bits: written as words and read back beside its
 -- call, it is the same answer.

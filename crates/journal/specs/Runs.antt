@@ -7,7 +7,7 @@ use Rattle.calls.specs.declared.refusal.Refusal.TheVariants.{BadWord, OutOfRange
 use Rattle.ledger.specs.Book.{State}
 use Rattle.ledger.specs.Calls.{Meaning, Outcome, step}
 use Rattle.words.specs.Reading.{read_call}
-use Rattle.words.specs.Writing.{answer_words}
+use Rattle.answers.specs.Writing.{answer_words}
 use Rattle.journal.specs.declared.ran.Ran.{Ran}
 use Rattle.journal.specs.declared.stop.Stop.{Stop}
 

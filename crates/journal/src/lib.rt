@@ -1,8 +1,8 @@
 // Running a journal: words are read, calls are made, and their answers are written.
 #![tactic(auto)]
 
-mod answers;
 mod laws;
+mod memory;
 mod ran;
 mod running;
 mod stop;

@@ -3,12 +3,13 @@ ghost use Rattle.std.specs.Prelude.{◌≡◌, ◌≤◌, length, IfSome};
 ghost use Rattle.ledger.specs.View.{view};
 ghost use Rattle.journal.specs.Runs.{run, Runs, stopped_at};
 
-use crate::answers::{answer_len, put};
+use crate::memory::{answer_len, put};
 use crate::ran::Ran;
 use crate::stop::Stop;
+use answers::encode;
 use calls::Refusal;
 use ledger::{Ledger, RateZone};
-use words::{Reader, encode};
+use words::Reader;
 
 // Reads the words to their end or to a stop, makes each call that is read, and writes the answers.
 // Kept: the C interface needs it: it lends the answer memory, and learns how much of it is written.

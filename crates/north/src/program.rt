@@ -1,5 +1,5 @@
 // A northern journal run from its words, and from its bytes to the bytes of its answers.
-ghost use Rattle.std.specs.Prelude.{◌≡◌, ◌≤◌, IfOk, Some, MatchOption};
+ghost use Rattle.std.specs.Prelude.{◌≡◌, ◌≤◌, IfOk, IfErr, IfSome, Some, MatchOption};
 ghost use Rattle.std.specs.Option.{ForSome};
 ghost use Rattle.north.specs.North.{no_price, priced_run, north_run, north_words, north_bytes, moved, stop_words};
 
@@ -26,9 +26,11 @@ fn behind_price(stop: Option<Stop>) -> Option<Stop>
 
 // Runs a journal under a reference price.
 fn run_priced(heap: Global, price: u32, journal: &[u32]) -> Result<Output, NotMade>
-    ensures { IfOk result (λ o.
+    requires { price ≤ 10000000 }
+    ensures run { IfOk result (λ o.
         (o.words.items ≡ (priced_run price journal.now).words)
         × (o.stop ≡ (priced_run price journal.now).stop)) }
+    ensures memory { IfErr result (λ e. e ≡ NotMade.NoMemory) }
 {
     let mut ledger = north_ledger(heap, price)?;
     let mut answers = vec![in heap; 0; 8192]?;
@@ -42,8 +44,9 @@ fn run_priced(heap: Global, price: u32, journal: &[u32]) -> Result<Output, NotMa
 
 // The price in front of a journal, and the journal.
 fn priced(input: &[u32]) -> Option<(u32, &[u32])>
-    ensures { MatchOption result (north_run input.now ≡ no_price)
+    ensures run { MatchOption result (north_run input.now ≡ no_price)
         (λ p. north_run input.now ≡ priced_run p.0 p.1.now) }
+    ensures price { IfSome result (λ p. p.0 ≤ 10000000) }
 {
     let (first, journal) = input.split_first()?;
     Some((price_of(*first)?, journal))
@@ -51,7 +54,9 @@ fn priced(input: &[u32]) -> Option<(u32, &[u32])>
 
 // Runs an input: a reference price, and then a journal.
 pub fn run_words(heap: Global, input: &[u32]) -> Result<Output, NotMade>
-    ensures { IfOk result (λ o. (o.words.items ≡ (north_run input.now).words) × (o.stop ≡ (north_run input.now).stop)) }
+    ensures run { IfOk result (λ o.
+        (o.words.items ≡ (north_run input.now).words) × (o.stop ≡ (north_run input.now).stop)) }
+    ensures memory { IfErr result (λ e. e ≡ NotMade.NoMemory) }
 {
     match priced(input) {
         Some((price, journal)) => run_priced(heap, price, journal),
@@ -84,7 +89,8 @@ fn words_of(stop: Stop) -> [u32; 2]
 
 // What is written for an input, in words.
 fn answer_words(heap: Global, input: &[u32]) -> Result<Vec<u32>, NotMade>
-    ensures { IfOk result (λ v. v.items ≡ north_words input.now) }
+    ensures words { IfOk result (λ v. v.items ≡ north_words input.now) }
+    ensures memory { IfErr result (λ e. e ≡ NotMade.NoMemory) }
 {
     let Output { mut words, stop } = run_words(heap, input)?;
     if let Some(stop) = stop {
@@ -95,7 +101,8 @@ fn answer_words(heap: Global, input: &[u32]) -> Result<Vec<u32>, NotMade>
 
 // What the program northrun writes for what it reads.
 pub fn northrun(heap: Global, input: &[u8]) -> Result<Vec<u8>, NotMade>
-    ensures { IfOk result (λ v. v.items ≡ north_bytes input.now) }
+    ensures bytes { IfOk result (λ v. v.items ≡ north_bytes input.now) }
+    ensures memory { IfErr result (λ e. e ≡ NotMade.NoMemory) }
 {
     let words = words_in(heap, input)?;
     let answers = answer_words(heap, &words)?;

@@ -1,8 +1,12 @@
-// Tests of a northern run on bad and on extreme input.
+// Tests of runs: bad and extreme input, each refusal, and the EGD ledger.
 #![tactic(auto)]
 
 #[cfg(test)]
+mod egd;
+#[cfg(test)]
 mod limits;
+#[cfg(test)]
+mod refusals;
 #[cfg(test)]
 mod stops;
 #[cfg(test)]

@@ -1,5 +1,7 @@
 // Inputs that are not read to their end.
 use crate::tools::{DAY, PRICE, answer, stop};
+use calls::Refusal;
+use journal::Stop;
 use std::test::Fail;
 
 #[test]
@@ -44,5 +46,28 @@ fn wrong_unknown_and_missing_words(rt: HostRuntime) -> Result<(), Fail> {
         )?,
         (1, 4)
     );
+    Ok(())
+}
+
+#[test]
+fn what_stops_a_run_1_5_19(rt: HostRuntime) -> Result<(), Fail> {
+    let heap = rt.alloc();
+    let mut ledger = zones::north_ledger(heap, 1)?;
+    let mut long = vec![in heap; DAY; 8192]?;
+    let mut memory = vec![in heap; 0; 16_384]?;
+    let ran = journal::run(&mut ledger, &long, &mut memory);
+    assert!(rt; ran.stop.is_none() && ran.written == 16_384);
+    long.push(DAY)?;
+    let rows = [
+        (long.as_slice(), 16_384, Refusal::OutOfRange, 0, 0),
+        ([DAY, 0x1000_0003, 0x2000_0001].as_slice(), 2, Refusal::BadWord, 3, 2),
+        ([DAY, DAY].as_slice(), 3, Refusal::NoRoom, 1, 2),
+    ];
+    for (words, room, refusal, place, written) in rows {
+        let mut memory = vec![in heap; 0; room]?;
+        let ran = journal::run(&mut ledger, words, &mut memory);
+        assert_eq!(rt; ran.stop, Some(Stop { refusal, place }));
+        assert_eq!(rt; ran.written, written);
+    }
     Ok(())
 }

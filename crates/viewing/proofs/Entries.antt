@@ -2,7 +2,7 @@
 use Rattle.std.proofs.Common.{◌≡◌, ℕ, ◌+◌, List, [], ◌∷◌, ◌++◌, sym, refl, subst}
 use Rattle.calls.specs.declared.call.Answer.{Answer}
 use Rattle.calls.specs.declared.call.Call.{Call}
-use Rattle.words.specs.Answers.{Replied}
+use Rattle.answers.specs.Answers.{Replied}
 use Rattle.words.specs.Reading.{Used}
 use Rattle.viewing.specs.Shown.{Seen, start, more, day_after}
 use Rattle.viewing.specs.declared.entry.Entry.{Entry}

@@ -1,10 +1,10 @@
 -- What is shown of a run: calls and answers, as they stand in the words, each with the day on which it was made.
-use Rattle.std.specs.Prelude.{◌≡◌, ℕ, ◌+◌, List, [], ◌∷◌, ◌++◌, drop, Ok}
+use Rattle.std.specs.Prelude.{◌≡◌, ℕ, ◌+◌, Bool, true, List, [], ◌∷◌, ◌++◌, drop, is_err, Ok, Err, Result}
 use Rattle.calls.specs.declared.call.Answer.{Answer}
 use Rattle.calls.specs.declared.call.Answer.TheVariants.{Done, Stated, Refused}
 use Rattle.calls.specs.declared.call.Call.{Call}
 use Rattle.calls.specs.declared.call.Call.TheVariants.{Day, Open, Post, Statement}
-use Rattle.words.specs.Answers.{read_answer}
+use Rattle.answers.specs.Answers.{read_answer}
 use Rattle.words.specs.Reading.{read_call}
 use Rattle.viewing.specs.declared.entry.Entry.{Entry}
 
@@ -26,5 +26,16 @@ pub data Seen : List ℕ → List ℕ → List Entry → ℕ → ℕ → ℕ →
       → read_answer e.call (drop replied answers) ≡ Ok (e.answer, taken)
       → Seen journal answers (es ++ e ∷ []) (day_after day e.call e.answer) (asked + used) (replied + taken)
 
-abbrev pub Shown : List ℕ → List ℕ → List Entry → Type 0
-Shown journal answers entries = (day : ℕ) × (asked : ℕ) × (replied : ℕ) × Seen journal answers entries day asked replied
+-- No call can be read from here on, or no answer to it.
+abbrev pub none_next : Result (Call × ℕ) ℕ → List ℕ → Bool
+none_next (Err at) answers = true
+none_next (Ok read) answers = is_err (read_answer read.0 answers)
+
+-- The entries go on as long as a call can be read and its answer beside it: behind the last one, at the places of the
+-- two, there is none.
+pub record Shown (journal answers : List ℕ) (entries : List Entry) : Type 0 where
+  pub day : ℕ
+  pub asked : ℕ
+  pub replied : ℕ
+  pub seen : Seen journal answers entries day asked replied
+  pub over : none_next (read_call (drop asked journal)) (drop replied answers) ≡ true

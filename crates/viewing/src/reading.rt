@@ -3,6 +3,7 @@ ghost use Rattle.std.specs.Prelude.{◌≡◌, IfOk};
 ghost use Rattle.viewing.specs.Shown.{day_after, Shown};
 
 use crate::entry::Entry;
+use answers::answer;
 use calls::{Answer, Call};
 use journal::Stop;
 use std::alloc::{AllocError, Global};
@@ -38,7 +39,7 @@ pub fn read_report(
     let mut replies = Reader::new(answers);
     let mut day = 1;
     'calls: while let Ok(call) = asked.call() {
-        let Ok(answer) = replies.answer(&call) else {
+        let Ok(answer) = answer(&mut replies, &call) else {
             break;
         };
         entries.push(Entry { day, call, answer })?;

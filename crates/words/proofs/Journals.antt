@@ -5,7 +5,7 @@ use Rattle.std.proofs.lemmas.List.{append_assoc, append-nil, length-append, take
 use Rattle.std.proofs.lemmas.Bool.{and_from, and_left, and_right, and_parts, lt-leb, le-leb}
 use Rattle.calls.specs.declared.call.Call.{Call}
 use Rattle.calls.specs.declared.call.Call.TheVariants.{Day}
-use Rattle.words.specs.Lists.{calls_words, all_fit, writable, Says, Put}
+use Rattle.words.specs.Lists.{calls_words, all_fit, writable, Put, UnwrittenAll}
 use Rattle.words.specs.Shapes.{figures_of}
 use Rattle.words.specs.Writing.{call_words, fit}
 use Rattle.words.specs.declared.fault.Unwritten.{Unwritten}
@@ -41,9 +41,16 @@ module _ (cs : List Call) (i : ℕ) (h : i < length cs) (ws after : List ℕ) wh
     ap all_fit (take_more cs i Day h) ∙ fit_push (take i cs) (get_or cs i Day) f p.fits,
   )
 
-  pub call_unfit : (e : Unwritten) → Put {T = Unit {0}} (get_or cs i Day) ws (Err e) after → Says (writable cs) e
-  call_unfit OutOfRange p = and_left (all_fit cs) _ (unfit cs i h p.fault)
-  call_unfit NoMemory p = tt
+  pub call_unfit : ws ≡ calls_words (take i cs) → all_fit (take i cs) ≡ true → length ws ≤ 8192 → (e : Unwritten)
+      → Put {T = Unit {0}} (get_or cs i Day) ws (Err e) after → UnwrittenAll cs e
+  call_unfit is f l OutOfRange p = and_left (all_fit cs) _ (unfit cs i h p.fault)
+  call_unfit is f l NoMemory p = record {
+    before = i;
+    more = h;
+    written = and_from (all_fit (take i cs)) _ f
+        (le-leb (length (calls_words (take i cs))) 8192 (omega (arith, ap length is)));
+    fits = ap all_fit (take_more cs i Day h) ∙ fit_push (take i cs) (get_or cs i Day) f p.fault;
+  }
 
 pub too_long : (cs : List Call) (n : ℕ) → 8192 < length (calls_words (take n cs)) → writable cs ≡ false
 too_long cs n h =

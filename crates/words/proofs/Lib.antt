@@ -1,9 +1,6 @@
 pub mod Codec
-pub mod Differences
 pub mod Journals
-pub mod Lines
 pub mod Readings
-pub mod Replies
 pub mod Returns
 pub mod Wholes
 pub mod Writings

@@ -2,11 +2,9 @@
 use Rattle.std.proofs.Common.{◌≡◌, ℕ, ◌+◌, ◌<◌, ◌≤◌, List, [], ◌∷◌, ◌++◌, length, get_or}
 use Rattle.std.proofs.Common.{drop, IfOk, Ok, Err, Result, sym, refl, ap, ◌∙◌, arith}
 use Rattle.std.proofs.lemmas.List.{append_assoc, append-nil, drop_all, drop_more}
-use Rattle.std.proofs.lemmas.List.{drop-drop, length-drop, at_drop_more, at_drop_all}
-use Rattle.calls.specs.declared.call.Answer.{Answer}
+use Rattle.std.proofs.lemmas.List.{drop-drop, length-append, length-drop, at_drop_more, at_drop_all}
 use Rattle.calls.specs.declared.call.Call.{Call}
-use Rattle.calls.specs.declared.call.Call.TheVariants.{Day}
-use Rattle.words.specs.Answers.{read_answer, read_answers, Replied, Unreplied}
+use Rattle.words.specs.Ends.{read_of}
 use Rattle.words.specs.Journal.{Reading, whole, halted, add, next, ended, read_by, read_calls}
 use Rattle.words.specs.Reading.{read_call, Used, Stopped}
 use Rattle.words.proofs.Codec.{Front, front}
@@ -19,7 +17,15 @@ pub behind_none : {X : Type 0} (s : Reading X) → behind [] 0 s ≡ s
 behind_none (whole ys) = refl
 behind_none (halted ys at) = ap (halted ys) (omega arith)
 
-behind_add : {X : Type 0} (xs : List X) (place : ℕ) (x : X) (used : ℕ) (s : Reading X)
+-- what was read so far is read of the whole: one call or answer at least
+pub kept_more : {X : Type 0} (xs : List X) (x : X) (place : ℕ) (s r : Reading X) → behind (xs ++ x ∷ []) place s ≡ r
+    → 1 ≤ length (read_of r)
+kept_more xs x place (whole ys) r e =
+    omega (arith, ap (λ s. length (read_of s)) e, length-append (xs ++ x ∷ []) ys, length-append xs (x ∷ []))
+kept_more xs x place (halted ys at) r e =
+    omega (arith, ap (λ s. length (read_of s)) e, length-append (xs ++ x ∷ []) ys, length-append xs (x ∷ []))
+
+pub behind_add : {X : Type 0} (xs : List X) (place : ℕ) (x : X) (used : ℕ) (s : Reading X)
     → behind xs place (add x used s) ≡ behind (xs ++ x ∷ []) (place + used) s
 behind_add xs place x used (whole ys) = ap whole (sym (append_assoc xs (x ∷ []) ys))
 behind_add xs place x used (halted ys at) =
@@ -79,41 +85,3 @@ module _ (ws : List ℕ) (xs : List Call) (place : ℕ)
 
   pub read_all : length ws ≤ place → read_calls ws ≡ whole xs
   read_all h = sym so_far ∙ ap (λ s. behind xs place (read_calls s)) (drop_all place ws h) ∙ ap whole (append-nil xs)
-
--- the answers to the calls from a place on
-module _ (cs : List Call) (ws : List ℕ) (xs : List Answer) (i place : ℕ)
-    (so_far : behind xs place (read_answers (drop i cs) (drop place ws)) ≡ read_answers cs ws) where
-  turn : i < length cs → (r : Result (Answer × ℕ) ℕ) → read_answer (get_or cs i Day) (drop place ws) ≡ r
-      → behind xs place (next r (λ used. read_answers (drop (i + 1) cs) (drop used (drop place ws))))
-      ≡ read_answers cs ws
-  turn h r e =
-      sym (ap (behind xs place) (at_drop_more (λ s. read_answers s (drop place ws)) cs i Day h
-      ∙ ap (λ q. next q (λ used. read_answers (drop (i + 1) cs) (drop used (drop place ws)))) e)) ∙ so_far
-
-  pub answer_more : i < length cs → (a : Answer) (after : ℕ) → Replied (get_or cs i Day) ws place a after
-      → (zs : List Answer) → zs ≡ xs ++ a ∷ []
-      → behind zs after (read_answers (drop (i + 1) cs) (drop after ws)) ≡ read_answers cs ws
-  answer_more h a after u zs is =
-      ap (λ s. behind s after (read_answers (drop (i + 1) cs) (drop after ws))) is
-      ∙ ap (λ n. behind (xs ++ a ∷ []) n (read_answers (drop (i + 1) cs) (drop n ws))) u.moved
-      ∙ ap (λ s. behind (xs ++ a ∷ []) (place + u.used) (read_answers (drop (i + 1) cs) s))
-      (sym (drop-drop u.used place ws))
-      ∙ sym (behind_add xs place a u.used (read_answers (drop (i + 1) cs) (drop u.used (drop place ws))))
-      ∙ turn h (Ok (a, u.used)) u.read
-
-  pub answer_stop : i < length cs → (at : ℕ) → Unreplied (get_or cs i Day) ws place at
-      → (ys : List Answer) × (read_answers cs ws ≡ halted ys at)
-  answer_stop h at s = (xs ++ [], sym (turn h (Err s.off) s.read) ∙ ap (halted (xs ++ [])) (sym s.here))
-
-  at_end : length cs ≤ i → behind xs place (ended (drop place ws)) ≡ read_answers cs ws
-  at_end h = sym (ap (behind xs place) (at_drop_all (λ s. read_answers s (drop place ws)) cs i h)) ∙ so_far
-
-  pub answer_left : length cs ≤ i → place < length ws → (ys : List Answer) × (read_answers cs ws ≡ halted ys place)
-  answer_left h k = (
-    xs ++ [],
-    sym (at_end h) ∙ ap (λ s. behind xs place (ended s)) (drop_more ws place 0 k)
-        ∙ ap (halted (xs ++ [])) (omega arith),
-  )
-
-  pub answer_all : length cs ≤ i → length ws ≤ place → read_answers cs ws ≡ whole xs
-  answer_all h k = sym (at_end h) ∙ ap (λ s. behind xs place (ended s)) (drop_all place ws k) ∙ ap whole (append-nil xs)

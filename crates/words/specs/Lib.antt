@@ -1,4 +1,3 @@
-pub mod Answers
 pub mod Ends
 pub mod Journal
 pub mod Kinds

@@ -1,8 +1,10 @@
 -- Writing lists of calls.
-use Rattle.std.specs.Prelude.{◌≡◌, ℕ, Bool, true, false, cond, ◌&&◌, List, [], ◌∷◌, ◌++◌, length, codes}
-use Rattle.std.specs.Prelude.{is_ok, IfOk, IfErr, Ok, Err, vec_items, Result, Vec, nat_le}
+use Rattle.std.specs.Prelude.{◌≡◌, ℕ, ◌+◌, ◌<◌, Bool, true, false, cond, ◌&&◌, List, [], ◌∷◌, ◌++◌, length, take, codes}
+use Rattle.std.specs.Prelude.{is_ok, IfOk, IfErr, Some, None, Ok, Err, vec_items, Option, Result, Vec, nat_le}
 use Rattle.std.specs.declared.alloc.Global.{Global}
 use Rattle.calls.specs.declared.call.Call.{Call}
+use Rattle.calls.specs.declared.refusal.Refusal.{Refusal}
+use Rattle.calls.specs.declared.refusal.Refusal.TheVariants as refusal
 use Rattle.words.specs.Shapes.{figures_of}
 use Rattle.words.specs.Writing.{call_words, fit}
 use Rattle.words.specs.declared.fault.Unwritten.{Unwritten}
@@ -22,10 +24,10 @@ all_fit (c ∷ cs) = fit (figures_of c) && all_fit cs
 abbrev pub writable : List Call → Bool
 writable cs = all_fit cs && nat_le (length (calls_words cs)) 8192
 
--- Out of range says that the test failed; want of memory says nothing of it.
+-- Out of range says that the test failed, and want of memory that it did not.
 abbrev pub Says : Bool → Unwritten → Type 0
 Says test OutOfRange = test ≡ false
-Says test NoMemory = Unit {0}
+Says test NoMemory = test ≡ true
 
 -- A call is written whole behind what was there, or not at all.
 pub record Put {T : Type 0} (c : Call) (before : List ℕ) (r : Result T Unwritten) (after : List ℕ) : Type 0 where
@@ -33,10 +35,27 @@ pub record Put {T : Type 0} (c : Call) (before : List ℕ) (r : Result T Unwritt
   pub fits : IfOk r (λ _. fit (figures_of c) ≡ true)
   pub fault : IfErr r (Says (fit (figures_of c)))
 
+-- Memory was wanting at a call whose figures fit, behind calls that can be written.
+pub record Wanting (cs : List Call) : Type 0 where
+  pub before : ℕ
+  pub more : before < length cs
+  pub written : writable (take before cs) ≡ true
+  pub fits : all_fit (take (before + 1) cs) ≡ true
+
+-- Why calls were not written.
+abbrev pub UnwrittenAll : List Call → Unwritten → Type 0
+UnwrittenAll cs OutOfRange = writable cs ≡ false
+UnwrittenAll cs NoMemory = Wanting cs
+
 -- The words of all the calls, where they can be written.
 abbrev pub WrittenAll : List Call → Result (Vec ℕ Global) Unwritten → Type 0
 WrittenAll cs (Ok v) = (vec_items v ≡ calls_words cs) × (writable cs ≡ true)
-WrittenAll cs (Err e) = Says (writable cs) e
+WrittenAll cs (Err e) = UnwrittenAll cs e
+
+-- The refusal that it stands for: 5 where a figure or the number of words is out of range.
+abbrev pub unwritten_refusal : Unwritten → Option Refusal
+unwritten_refusal OutOfRange = Some refusal.OutOfRange
+unwritten_refusal NoMemory = None
 
 -- What is written of calls that were not.
 abbrev pub unwritten_text : Unwritten → List ℕ

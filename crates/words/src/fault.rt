@@ -1,7 +1,9 @@
 // Why calls were not written.
 ghost use Rattle.std.specs.Prelude.{◌≡◌};
+ghost use Rattle.words.specs.Lists.{unwritten_refusal};
 ghost use Rattle.words.specs.declared.fault.Unwritten.TheVariants.{NoMemory};
 
+use calls::Refusal;
 use std::alloc::AllocError;
 use std::error::Error;
 use std::fmt;
@@ -11,6 +13,18 @@ pub enum Unwritten {
     // a figure does not fit its word, or the words would be more than a journal has
     OutOfRange,
     NoMemory,
+}
+
+impl Unwritten {
+    // The refusal that it stands for; want of memory is none.
+    pub fn refusal(&self) -> Option<Refusal>
+        ensures { result ≡ unwritten_refusal self.now }
+    {
+        match self {
+            Unwritten::OutOfRange => Some(Refusal::OutOfRange),
+            Unwritten::NoMemory => None,
+        }
+    }
 }
 
 impl From<AllocError> for Unwritten {

@@ -1,6 +1,5 @@
 // The theorems of the codec: each holds of every call and of all words.
 ghost use Rattle.words.specs.Laws.{CallReturns, CallsReturn, WordsReturn, StopsAreExact};
-ghost use Rattle.words.specs.Laws.{AnswersAreCounted, AnswerReturns, AnswersReturn, AnswerWordsReturn};
 
 // Calls to words and back.
 pub fn calls_stand()
@@ -12,12 +11,4 @@ pub fn calls_stand()
 pub fn journals_stand()
     ensures words { WordsReturn }
     ensures stops { StopsAreExact }
-{}
-
-// Answers to words and back, and words to answers and back.
-pub fn answers_stand()
-    ensures counted { AnswersAreCounted }
-    ensures answer { AnswerReturns }
-    ensures answers { AnswersReturn }
-    ensures words { AnswerWordsReturn }
 {}

@@ -1,8 +1,6 @@
-// Journal words: calls as words and back, and answers as words and back.
+// Journal words: calls as words and back.
 #![tactic(auto)]
 
-mod decoded;
-mod encoded;
 mod fault;
 mod figures;
 mod journal;
@@ -17,16 +15,15 @@ mod unread;
 mod writer;
 mod written;
 
-pub use encoded::encode;
 pub use fault::Unwritten;
-pub use figures::{call_of, figures_of, number_of};
-pub use journal::{read_answers, read_calls};
+pub use figures::{call_of, figure, figures_of, number_of};
+pub use journal::read_calls;
 pub use kind::Kind;
-pub use laws::{answers_stand, calls_stand, journals_stand};
+pub use laws::{calls_stand, journals_stand};
 pub use misread::Misread;
 pub use packed::{VALUES, is_of, value_of, word};
 pub use reader::Reader;
-pub use row::{Encoded, Figures};
+pub use row::Figures;
 pub use table::shape;
 pub use unread::Unread;
 pub use writer::{write_call, write_calls};

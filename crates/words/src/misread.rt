@@ -1,4 +1,8 @@
 // A word that is wrong, unknown, missing or left over.
+ghost use Rattle.std.specs.Prelude.{◌≡◌};
+ghost use Rattle.words.specs.Misreads.{misread_refusal};
+
+use calls::Refusal;
 use std::error::Error;
 use std::fmt;
 
@@ -6,6 +10,15 @@ use std::fmt;
 #[derive(Clone, Copy, Debug, PartialEq, Eq)]
 pub struct Misread {
     pub place: usize,
+}
+
+// The refusal that it stands for.
+impl From<Misread> for Refusal {
+    ghost from_gives = { λ m r. r ≡ misread_refusal m };
+
+    fn from(_misread: Misread) -> Refusal {
+        Refusal::BadWord
+    }
 }
 
 impl fmt::Display for Misread {

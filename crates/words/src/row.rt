@@ -9,6 +9,3 @@ pub type Figures = ArrayVec<u32, MOST>;
 
 // A call's words.
 pub type Written = ArrayVec<u32, 9>;
-
-// An answer's words.
-pub type Encoded = ArrayVec<u32, 18>;

@@ -1,8 +1,10 @@
 // Why words were not read to the end.
 ghost use Rattle.std.specs.Prelude.{◌≡◌};
+ghost use Rattle.words.specs.Misreads.{unread_refusal};
 ghost use Rattle.words.specs.declared.unread.Unread.TheVariants.{Stop, NoMemory};
 
 use crate::misread::Misread;
+use calls::Refusal;
 use std::alloc::AllocFailed;
 use std::error::Error;
 use std::fmt;
@@ -12,6 +14,18 @@ pub enum Unread {
     // at the word that is wrong, unknown, missing or left over
     Stop(Misread),
     NoMemory,
+}
+
+impl Unread {
+    // The refusal that it stands for; want of memory is none.
+    pub fn refusal(&self) -> Option<Refusal>
+        ensures { result ≡ unread_refusal self.now }
+    {
+        match self {
+            Unread::Stop(misread) => Some(Refusal::from(*misread)),
+            Unread::NoMemory => None,
+        }
+    }
 }
 
 impl From<Misread> for Unread {

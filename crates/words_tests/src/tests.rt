@@ -1,8 +1,9 @@
 // Every call by its least and greatest figures, every wrong kind, and the limits.
+use answers::{answer as answer_at, encode};
 use calls::{Answer, Call, Opening, Posting, Refusal, Stated, Status};
 use std::process::Abort;
 use std::test::Fail;
-use words::{Kind, Misread, Reader, encode, number_of, read_calls, shape, word, write_calls};
+use words::{Kind, Misread, Reader, number_of, read_calls, shape, word, write_calls};
 
 const TOP: u32 = 0x0fff_ffff;
 
@@ -104,7 +105,7 @@ fn answered(rt: &impl Abort, call: &Call, answer: &Answer, len: usize) -> Result
     let mut words = [0; 18];
     words[..encoded.len()].copy_from_slice(&encoded);
     let mut reader = Reader::new(&words);
-    assert_eq!(rt; reader.answer(call)?, *answer);
+    assert_eq!(rt; answer_at(&mut reader, call)?, *answer);
     assert_eq!(rt; reader.place, len);
     for (place, word) in encoded.iter().enumerate() {
         let mut spoilt = words;
@@ -112,7 +113,7 @@ fn answered(rt: &impl Abort, call: &Call, answer: &Answer, len: usize) -> Result
             *at = *word ^ 0xf000_0000;
         }
         assert_eq!(rt;
-            Reader::new(&spoilt).answer(call).err(),
+            answer_at(&mut Reader::new(&spoilt), call).err(),
             Some(Misread { place })
         );
     }

@@ -1,12 +1,14 @@
 -- What the ledgers of the zones are made of.
-use Rattle.std.specs.Prelude.{◌≡◌, ℕ, ◌<◌, ◌≤◌}
-use Rattle.balancing.specs.Rules.{north_band}
+use Rattle.std.specs.Prelude.{◌≡◌, ℕ, ◌<◌, ◌≤◌, Bool, false, ◌&&◌, List, length}
+use Rattle.balancing.specs.Rules.{north_band, egd_band}
 use Rattle.calls.specs.declared.refusal.Refusal.TheVariants.{OutOfRange}
 use Rattle.ledger.specs.Calls.{Meaning}
 use Rattle.ledger.specs.Book.{Allowances}
+use Rattle.ledger.specs.Making.{allowed}
 use Rattle.ledger.specs.declared.failing.NotMade.{NotMade}
 use Rattle.ledger.specs.declared.failing.NotMade.TheVariants.{Refused, NoMemory}
-use Rattle.zones.specs.Sources.{north_quote}
+use Rattle.prices.specs.Ends.{is_daily, is_monthly}
+use Rattle.zones.specs.Sources.{overrun_quote, shortage_quote, excess_quote, north_quote}
 
 -- North: both edges are 0, and the reference price is the price of all three sources.
 abbrev pub north_means : ℕ → Meaning
@@ -21,3 +23,30 @@ north_allowances = record { western = 500000; dawn = 500000; ontario = 500000 }
 abbrev pub NorthUnmade : ℕ → NotMade → Type 0
 NorthUnmade price (Refused r) = (r ≡ OutOfRange) × (10000000 < price)
 NorthUnmade price NoMemory = price ≤ 10000000
+
+-- EGD: its edges, its overrun price from the daily highs, and its shortage and excess prices from the monthly index.
+abbrev pub egd_means : ℕ → List ℕ → List ℕ → Meaning
+egd_means start highs index =
+    record {
+      band = egd_band;
+      overrun = overrun_quote start highs;
+      shortage = shortage_quote index;
+      excess = excess_quote index;
+    }
+
+-- The figures of its sources are in range.
+abbrev pub egd_sources : ℕ → List ℕ → List ℕ → Bool
+egd_sources start highs index = is_daily start (length highs) && is_monthly (length index)
+
+-- All its figures are in range: the starting day, both lists, and the allowances.
+abbrev pub egd_makes : ℕ → List ℕ → List ℕ → Allowances → Bool
+egd_makes start highs index allowances = egd_sources start highs index && allowed allowances
+
+-- A zone or a ledger is not made if a figure is out of range, which is refused, or if memory is wanting.
+abbrev pub EgdZoneUnmade : ℕ → List ℕ → List ℕ → NotMade → Type 0
+EgdZoneUnmade start highs index (Refused r) = (r ≡ OutOfRange) × (egd_sources start highs index ≡ false)
+EgdZoneUnmade start highs index NoMemory = Unit {0}
+
+abbrev pub EgdUnmade : ℕ → List ℕ → List ℕ → Allowances → NotMade → Type 0
+EgdUnmade start highs index allowances (Refused r) = (r ≡ OutOfRange) × (egd_makes start highs index allowances ≡ false)
+EgdUnmade start highs index allowances NoMemory = Unit {0}

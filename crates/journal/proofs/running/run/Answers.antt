@@ -1,7 +1,7 @@
 use Rattle.std.proofs.Common.{◌≡◌, ◌-◌, ◌<◌, ◌≤◌, length, drop, sym, ap, ◌∙◌, arith}
 use Rattle.std.proofs.lemmas.List.{length-drop}
 use Rattle.std.proofs.lemmas.Bool.{leb-false, leb-true}
-use Rattle.words.specs.Writing.{answer_words}
+use Rattle.answers.specs.Writing.{answer_words}
 use Rattle.journal.proofs.Near.{stop_near}
 use Rattle.journal.proofs.Loops.{step_on, ends_whole, ends_wrong, ends_full, reads}
 use Rattle.journal.proofs.running.run.Goals as goal

@@ -7,8 +7,8 @@ use Rattle.north.specs.North.{moved}
 use Rattle.north.proofs.Outputs.{cut_words, same_run}
 use Rattle.north.proofs.program.run_priced.Goals as goal
 
-pub returns : goal.returns
-returns c =
+pub returns-clause-run : goal.returns-clause-run
+returns-clause-run c =
     let made = c.in_ok-ledger.ensures in
     let room : length c.deref_mut.result.now ≡ 8192 =
     omega (arith, c.deref_mut.ensures.len, c.in_ok-answers.ensures.len) in

@@ -7,8 +7,8 @@ pub returns-in_err-write_call : goal.returns-in_err-write_call
 returns-in_err-write_call c =
     let p = err_from_is_err_and c.from_residual.result c.from_residual.ensures.1 in
     rw (p.1, p.2) (call_unfit c.args.calls.now c.loop-call.call-index c.loop-call-test.true
-    (vec_items c.loop-call.out) (vec_items c.write_call.new.out) c.in_err-write_call.field-0.0
-    c.in_err-write_call.ensures)
+    (vec_items c.loop-call.out) (vec_items c.write_call.new.out) c.loop-call.invariant.0 c.loop-call.invariant.1
+    (omega (arith, c.loop-call.invariant.2)) c.in_err-write_call.field-0.0 c.in_err-write_call.ensures)
 
 pub returns-then-len-gt-ROOM : goal.returns-then-len-gt-ROOM
 returns-then-len-gt-ROOM c = too_long c.args.calls.now (c.loop-call.call-index + 1)

@@ -1,0 +1,4 @@
+pub mod Differences
+pub mod Lines
+pub mod Replies
+pub mod Wholes

@@ -1,6 +1,0 @@
-use Rattle.ledger.specs.View.{view}
-use Rattle.journal.proofs.Lengths.{call_short}
-use Rattle.journal.proofs.answers.answer_len.Goals as goal
-
-pub returns-in_default : goal.returns-in_default
-returns-in_default c = λ m. call_short m (view c.args.tables.now) c.args.call.now c.in_default.not-Statement

@@ -1,7 +1,0 @@
-use Rattle.std.proofs.Common.{◌≡◌, ◌+◌, ◌*◌, ◌++◌, length, take}
-use Rattle.words.specs.Writing.{lines_words}
-use Rattle.words.proofs.encoded.push_lines.Given as goal
-
-abbrev pub invariant-loop-line : goal.invariant-loop-line
-invariant-loop-line l = (l.words.items ≡ l.initial.words.items ++ lines_words (take l.line-index l.lines))
-    × (length l.words.items ≡ 8 + 2 * l.line-index)
