@@ -8,7 +8,7 @@ use Rattle.calls.specs.Statuses.{status_number}
 use Rattle.calls.specs.declared.call.Answer.{Answer}
 use Rattle.calls.specs.declared.call.Answer.TheVariants.{Done, Stated, Refused}
 use Rattle.calls.specs.declared.call.Call.{Call}
-use Rattle.calls.specs.declared.call.Stated.{Stated as Statement}
+use Rattle.calls.specs.declared.call.StatedTerm.{StatedTerm}
 use Rattle.words.specs.Kinds.{word}
 use Rattle.words.specs.Shapes.{shape_of, call_number, figures_of}
 use Rattle.words.specs.declared.kind.Kind.{Kind}
@@ -46,7 +46,7 @@ lines_words [] = []
 lines_words (x ∷ xs) = line_words x ++ lines_words xs
 
 -- A statement's sixteen words: term, pool, status, next unposted day, balance, gas on offer, and five lines of two.
-abbrev pub statement_words : Statement → List ℕ
+abbrev pub statement_words : StatedTerm → List ℕ
 statement_words s =
     word kind.Number s.term
     ∷ word kind.Number s.pool

@@ -14,7 +14,7 @@ use crate::kind::Kind;
 use crate::misread::Misread;
 use crate::packed::{is_of, value_of};
 use crate::reader::Reader;
-use calls::{Answer, Call, Refusal, Stated as Statement, Status};
+use calls::{Answer, Call, Refusal, StatedTerm, Status};
 
 impl<'a> Reader<'a> {
     // The answer to a call; or the place of the first word that is wrong or missing, and then the reader stays where
@@ -62,10 +62,10 @@ fn refusal_in(words: &[u32]) -> Refusal
     Refusal::from_number(value_at(words, 0), value_at(words, 1)).unwrap_or(Refusal::BadWord)
 }
 
-fn stated_in(words: &[u32]) -> Statement
+fn stated_in(words: &[u32]) -> StatedTerm
     ensures { result ≡ stated_in words.now }
 {
-    Statement {
+    StatedTerm {
         term: value_at(words, 2),
         pool: value_at(words, 3),
         status: status_at(words, 4),

@@ -10,7 +10,7 @@ ghost use Rattle.calls.specs.declared.call.Answer.TheVariants.{Stated};
 use crate::kind::Kind;
 use crate::packed::word;
 use crate::row::Encoded;
-use calls::{Answer, Stated as Statement};
+use calls::{Answer, StatedTerm};
 
 // An answer's words: two, or eighteen for a statement.
 pub fn encode(answer: &Answer) -> Encoded
@@ -36,7 +36,7 @@ fn two(kind: Kind, value: u32, figure: u32) -> Encoded
     words
 }
 
-fn statement(stated: &Statement) -> Encoded
+fn statement(stated: &StatedTerm) -> Encoded
     ensures words { result.items ≡ answer_words (Stated stated.now) }
     ensures len { array_vec_len result ≡ 18 }
 {

@@ -1,5 +1,5 @@
 // Every call by its least and greatest figures, every wrong kind, and the limits.
-use calls::{Answer, Call, Opening, Posting, Refusal, Stated, Status};
+use calls::{Answer, Call, Opening, Posting, Refusal, StatedTerm, Status};
 use std::process::Abort;
 use std::test::Fail;
 use words::{Kind, Misread, Reader, encode, number_of, read_calls, shape, word, write_calls};
@@ -123,7 +123,7 @@ fn answered(rt: &impl Abort, call: &Call, answer: &Answer, len: usize) -> Result
 
 #[test]
 fn answers_return(rt: HostRuntime) -> Result<(), Fail> {
-    let stated = Stated {
+    let stated = StatedTerm {
         term: TOP,
         pool: 1,
         status: Status::Expired,
