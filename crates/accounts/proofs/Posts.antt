@@ -1,13 +1,11 @@
 -- A posting: what its two bookings come to, and how its plan, its price and its booking make up the ruling.
-use Rattle.std.proofs.Common.{◌≡◌, ℕ, suc, ◌+◌, ◌<◌, true, false, ◌++◌, List, [], ◌∷◌, length, get_or, set, ℤ, pos}
-use Rattle.std.proofs.Common.{Some, None, Ok, Err, vec_items, vec_len, Result, sym, refl, ap, ◌∙◌, subst, arith}
-use Rattle.std.proofs.lemmas.Bool.{true≢false, not_from_true}
-use Rattle.std.proofs.lemmas.List.{length-map}
+use Rattle.std.proofs.Common.{◌≡◌, ℕ, suc, ◌<◌, true, List, [], ◌∷◌, length, get_or, set, ℤ}
+use Rattle.std.proofs.Common.{Some, None, Ok, Err, vec_items, Result, sym, refl, ap, ◌∙◌, arith}
+use Rattle.std.proofs.lemmas.Bool.{true≢false}
 use Rattle.amounts.specs.Limits.{gas_limit, charge_limit}
 use Rattle.amounts.specs.Rows.{within}
-use Rattle.amounts.specs.Tables.{Booked, rows_of, grown}
+use Rattle.amounts.specs.Tables.{Booked, grown}
 use Rattle.amounts.specs.declared.row.Fault.{Fault}
-use Rattle.amounts.specs.declared.row.Row.{Row}
 use Rattle.amounts.proofs.Bookings.{booked_ok, booked_err}
 use Rattle.prices.specs.Quotes.{Quote}
 use Rattle.prices.specs.declared.source.Lack.{Lack}
@@ -26,7 +24,7 @@ use Rattle.tables.specs.View.{view, view_accounts, gas_rows, line_rows}
 use Rattle.tables.specs.declared.holding.Holding.{Holding}
 use Rattle.tables.specs.declared.tables.Tables.{Tables}
 use Rattle.tables.specs.declared.term.Term.{Term}
-use Rattle.tables.proofs.Accounts.{Beside, beside}
+use Rattle.tables.proofs.Accounts.{beside}
 use Rattle.tables.proofs.Changes.{row_long, gas_grown, bank_set, charge_set, term_set, change_twice}
 use Rattle.accounts.specs.Plans.{Ready, charging}
 

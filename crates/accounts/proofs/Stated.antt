@@ -1,11 +1,11 @@
 -- What a statement reads off the tables.
-use Rattle.std.proofs.Common.{◌≡◌, ℕ, ◌+◌, ◌<◌, false, List, [], length, get_or, pos, vec_items, vec_len, sym}
+use Rattle.std.proofs.Common.{◌≡◌, ℕ, ◌<◌, List, [], length, get_or, pos, vec_items, sym}
 use Rattle.std.proofs.Common.{refl, ap, ◌∙◌, arith}
 use Rattle.std.proofs.lemmas.List.{get_or-map}
 use Rattle.amounts.specs.Limits.{gas_limit, charge_limit}
 use Rattle.amounts.specs.Tables.{rows_of}
 use Rattle.amounts.specs.declared.row.Row.{Row}
-use Rattle.book.specs.Accounts.{account_at, missing, dated}
+use Rattle.book.specs.Accounts.{account_at, dated}
 use Rattle.book.specs.Rulings.{DoneBy, statement}
 use Rattle.book.specs.Statement.{statement_ruling}
 use Rattle.tables.specs.Rows.{account_of}

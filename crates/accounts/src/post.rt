@@ -21,7 +21,7 @@ pub fn post<Z: RateZone>(tables: &mut Tables, zone: &Z, day: Posting) -> Result<
         (post_ruling (Z.means zone.now).overrun (view tables.old) day) result (view tables.new) }
 {
     let held = plan(tables, &day)?;
-    let owed = owed(zone, &held.term, day.delivered)?;
+    let owed = owed(zone, &held.term, &day)?;
     book(tables, held, &day, owed)
 }
 
@@ -64,18 +64,21 @@ fn test_gas(tables: &Tables, held: &Holding, day: &Posting) -> Result<(), Refusa
 }
 
 // What is short of the MDV, at the day's price; where nothing is short no price is sought.
-fn owed<Z: RateZone>(zone: &Z, term: &Term, delivered: u32) -> Result<u64, Lack>
+fn owed<Z: RateZone>(zone: &Z, term: &Term, day: &Posting) -> Result<u64, Lack>
     ensures value { result
-        ≡ overrun_owed (Z.means zone.now).overrun term.now.contract term.now.next delivered }
+        ≡ overrun_owed (Z.means zone.now).overrun term.now.contract term.now.next day.now.delivered }
     ensures most { IfOk result (λ m. m < 2 ^ 62) }
 {
     let contract = term.contract;
-    if delivered >= contract.mdv {
+    if day.delivered >= contract.mdv {
         return Ok(0);
     }
-    let day = term.next;
-    let price = zone.overrun(contract.point, Span { from: day, to: day })?;
-    Ok((contract.mdv - delivered) as u64 * price as u64)
+    let span = Span {
+        from: term.next,
+        to: term.next,
+    };
+    let price = zone.overrun(contract.point, span)?;
+    Ok((contract.mdv - day.delivered) as u64 * price as u64)
 }
 
 // A charge on line 1.

@@ -1,5 +1,5 @@
 -- Every answer of a ledger fits its words, by the ranges that the tables keep.
-use Rattle.std.proofs.Common.{◌≡◌, ℕ, ◌+◌, ◌≤◌, Bool, true, false, ltb, leb, List, [], ◌∷◌}
+use Rattle.std.proofs.Common.{◌≡◌, ℕ, ◌+◌, ◌≤◌, Bool, true, ltb, leb, List, [], ◌∷◌}
 use Rattle.std.proofs.Common.{length, get_or, drop, ℤ, pos, nat_abs, Some, None, Ok, Err, Result, refl, arith}
 use Rattle.std.specs.List.{AllByRecursion as All}
 use Rattle.std.proofs.lemmas.Bool.Decides.{nat_tests}
@@ -8,14 +8,13 @@ use Rattle.amounts.specs.Limits.{gas_limit, charge_limit}
 use Rattle.amounts.specs.Rows.{within}
 use Rattle.amounts.specs.declared.row.Row.{Row}
 use Rattle.book.specs.Accounts.{Account, missing, account_at}
-use Rattle.book.specs.Limits.{pool_limit, term_ends, term_places}
+use Rattle.book.specs.Limits.{pool_limit, term_ends}
 use Rattle.book.specs.Meanings.{Meaning}
 use Rattle.book.specs.Post.{owed}
 use Rattle.book.specs.Prices.{priced, lack_in}
 use Rattle.book.specs.Rulings.{Ruling, said, first_of, decided}
 use Rattle.book.specs.State.{State}
 use Rattle.book.specs.Step.{step, ruling}
-use Rattle.calendar.specs.Days.{last_day}
 use Rattle.calls.specs.declared.arguments.Opening.{Opening}
 use Rattle.calls.specs.declared.arguments.Posting.{Posting}
 use Rattle.calls.specs.declared.call.Answer.TheVariants.{Refused}

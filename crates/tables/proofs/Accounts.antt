@@ -1,6 +1,6 @@
 -- The book's accounts over the three tables beside one another: their number, one of them, one written, one more.
-use Rattle.std.proofs.Common.{◌≡◌, ℕ, zero, suc, ◌+◌, ◌-◌, ◌<◌, ◌≤◌, Bool, false, ◌||◌, eqb, ltb, List}
-use Rattle.std.proofs.Common.{[], ◌∷◌, ◌++◌, length, get_or, set, ℤ, pos, ◌+ℤ◌, vec_items, vec_len, sym}
+use Rattle.std.proofs.Common.{◌≡◌, ℕ, zero, suc, ◌+◌, ◌<◌, ◌≤◌, Bool, false, ◌||◌, eqb, ltb, List}
+use Rattle.std.proofs.Common.{[], ◌∷◌, ◌++◌, length, get_or, ℤ, vec_items, vec_len, sym}
 use Rattle.std.proofs.Common.{refl, ap, ◌∙◌, le_of_suc-le-suc, not-suc-le-zero, arith}
 use native.Mathlib.Nat.{suc_inj}
 use Rattle.std.specs.List.{list_any}
@@ -8,10 +8,9 @@ use Rattle.std.proofs.lemmas.List.{length-map, map_push}
 use Rattle.std.proofs.lemmas.Bool.Decides.{nat_tests}
 use Rattle.std.proofs.lemmas.Bool.{or_parts, eqb-false, ltb-false}
 use Rattle.amounts.specs.Limits.{gas_limit, charge_limit}
-use Rattle.amounts.specs.Rows.{sums}
-use Rattle.amounts.specs.Tables.{rows_of, grown}
+use Rattle.amounts.specs.Tables.{rows_of}
 use Rattle.amounts.specs.declared.row.Row.{Row}
-use Rattle.book.specs.Accounts.{Account, no_account, missing, account_at, change, banked, charged}
+use Rattle.book.specs.Accounts.{Account, no_account, missing, account_at}
 use Rattle.tables.specs.Rows.{account_of, accounts_of}
 use Rattle.tables.specs.View.{gas_rows, line_rows, view_accounts}
 use Rattle.tables.specs.declared.tables.Tables.{Tables}

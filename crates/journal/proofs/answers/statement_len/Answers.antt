@@ -1,4 +1,4 @@
-use Rattle.std.proofs.Common.{◌≡◌, true, false, not, arith}
+use Rattle.std.proofs.Common.{◌≡◌, true, false, arith}
 use Rattle.book.specs.Accounts.{missing}
 use Rattle.tables.specs.View.{view, view_accounts}
 use Rattle.tables.proofs.Accounts.{lines_five}
