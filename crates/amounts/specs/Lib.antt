@@ -1,3 +1,4 @@
 pub mod Faults
+pub mod Limits
 pub mod Rows
 pub mod Tables

@@ -1,8 +1,10 @@
 // Amounts: rows of whole numbers under the limit of their kind, and how they are booked.
 #![tactic(auto)]
 
+mod limits;
 mod row;
 mod table;
 
-pub use row::{CHARGE_LIMIT, Charges, Fault, GAS_LIMIT, Gas, Row};
+pub use limits::{CHARGE_LIMIT, GAS_LIMIT};
+pub use row::{Charges, Fault, Gas, Row};
 pub use table::book;

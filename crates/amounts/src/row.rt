@@ -2,14 +2,9 @@
 ghost use Rattle.std.specs.Prelude.{◌≡◌, ◌^◌, ◌<◌, true, length, Some};
 ghost use Rattle.amounts.specs.Rows.{within};
 
+use crate::limits::{CHARGE_LIMIT, GAS_LIMIT};
 use std::error::Error;
 use std::fmt;
-
-// Gas, in m³.
-pub const GAS_LIMIT: u64 = 200_000_000;
-
-// Charges, in micros.
-pub const CHARGE_LIMIT: u64 = 100_000_000_000_000;
 
 // A row of N figures, each within LIMIT of 0.
 #[derive(Clone, Copy, Debug, PartialEq, Eq)]

@@ -12,7 +12,7 @@ use Rattle.calls.specs.Statuses.{status_number, status_at}
 use Rattle.calls.specs.declared.call.Answer.{Answer}
 use Rattle.calls.specs.declared.call.Answer.TheVariants.{Done, Stated, Refused}
 use Rattle.calls.specs.declared.call.Call.{Call}
-use Rattle.calls.specs.declared.call.Stated.{Stated as Statement}
+use Rattle.calls.specs.declared.call.StatedTerm.{StatedTerm}
 use Rattle.calls.specs.declared.refusal.Refusal.{Refusal}
 use Rattle.calls.specs.declared.refusal.Refusal.TheVariants.{BadWord, LastDay, NoTerm, WrongStatus}
 use Rattle.calls.specs.declared.refusal.Refusal.TheVariants.{OutOfRange, Full, Overlap, Untimely}
@@ -114,7 +114,7 @@ refusal_returns ChargeLimit ws h = refl
 refusal_returns (Lacking l) ws h = ap (λ d. Lacking (record { day = d })) (value_word kind.Figure l.day h)
 refusal_returns NoRoom ws h = refl
 
-abbrev stated_of : ℕ → ℕ → Status → ℕ → ℤ → ℕ → List ℤ → Statement
+abbrev stated_of : ℕ → ℕ → Status → ℕ → ℤ → ℕ → List ℤ → StatedTerm
 stated_of term pool status next balance offer lines =
     record {
       term = term;
@@ -130,7 +130,7 @@ stated_same : {t t' p p' : ℕ} {s s' : Status} {n n' : ℕ} {b b' : ℤ} {o o' 
     → s ≡ s' → n ≡ n' → b ≡ b' → o ≡ o' → l ≡ l' → stated_of t p s n b o l ≡ stated_of t' p' s' n' b' o' l'
 stated_same e₁ e₂ e₃ e₄ e₅ e₆ e₇ = cc
 
-stated_returns : (s : Statement) (ws : List ℕ) → stated_fits s ≡ true → stated_in (answer_words (Stated s) ++ ws) ≡ s
+stated_returns : (s : StatedTerm) (ws : List ℕ) → stated_fits s ≡ true → stated_in (answer_words (Stated s) ++ ws) ≡ s
 stated_returns s ws f =
     let whole = and_parts _ (eqb (length s.lines) 5) f in
     let a = and_parts _ _ whole.0 in

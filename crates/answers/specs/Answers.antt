@@ -8,7 +8,7 @@ use Rattle.calls.specs.Statuses.{status_at}
 use Rattle.calls.specs.declared.call.Answer.{Answer}
 use Rattle.calls.specs.declared.call.Answer.TheVariants.{Done, Stated, Refused}
 use Rattle.calls.specs.declared.call.Call.{Call}
-use Rattle.calls.specs.declared.call.Stated.{Stated as Statement}
+use Rattle.calls.specs.declared.call.StatedTerm.{StatedTerm}
 use Rattle.calls.specs.declared.refusal.Refusal.{Refusal}
 use Rattle.calls.specs.declared.refusal.Refusal.TheVariants.{BadWord}
 use Rattle.calls.specs.declared.status.Status.TheVariants.{Waiting}
@@ -39,7 +39,7 @@ abbrev pub lines_in : ℕ → ℕ → List ℕ → List ℤ
 lines_in zero at ws = []
 lines_in (suc n) at ws = line_in (slice_index ws at) (slice_index ws (suc at)) ∷ lines_in n (suc (suc at)) ws
 
-abbrev pub stated_in : List ℕ → Statement
+abbrev pub stated_in : List ℕ → StatedTerm
 stated_in ws = record {
   term = value_in (slice_index ws 2);
   pool = value_in (slice_index ws 3);
@@ -95,7 +95,7 @@ abbrev pub line_highs : List ℤ → List ℕ
 line_highs [] = []
 line_highs (x ∷ xs) = unsigned_abs x / 100000000 ∷ line_highs xs
 
-abbrev pub stated_fits : Statement → Bool
+abbrev pub stated_fits : StatedTerm → Bool
 stated_fits s = fit (s.term ∷ s.pool ∷ s.next ∷ unsigned_abs s.balance ∷ s.on_offer ∷ line_highs s.lines)
     && length s.lines == 5
 

@@ -5,7 +5,7 @@ use Rattle.calls.specs.Refusals.{number_of, lacking_day}
 use Rattle.calls.specs.Statuses.{status_number}
 use Rattle.calls.specs.declared.call.Answer.{Answer}
 use Rattle.calls.specs.declared.call.Answer.TheVariants.{Done, Stated, Refused}
-use Rattle.calls.specs.declared.call.Stated.{Stated as Statement}
+use Rattle.calls.specs.declared.call.StatedTerm.{StatedTerm}
 use Rattle.words.specs.Kinds.{word}
 use Rattle.words.specs.declared.kind.Kind.TheVariants as kind
 
@@ -27,7 +27,7 @@ lines_words [] = []
 lines_words (x ∷ xs) = line_words x ++ lines_words xs
 
 -- A statement's sixteen words: term, pool, status, next unposted day, balance, gas on offer, and five lines of two.
-abbrev pub statement_words : Statement → List ℕ
+abbrev pub statement_words : StatedTerm → List ℕ
 statement_words s =
     word kind.Number s.term
     ∷ word kind.Number s.pool

@@ -9,7 +9,7 @@ ghost use Rattle.answers.specs.Answers.{Reply, answer_in, stated_in, line_in};
 ghost use Rattle.answers.specs.Answers.{lines_in, signed_by, signed_in, refusal_in, differs};
 
 use crate::encoded::encode;
-use calls::{Answer, Call, Refusal, Stated as Statement, Status};
+use calls::{Answer, Call, Refusal, StatedTerm, Status};
 use words::{Kind, Misread, Reader, figure, is_of, value_of};
 
 // The answer to a call, read at the reader's place; or the place of the first word that is wrong or missing, and then
@@ -56,10 +56,10 @@ fn refusal_in(words: &[u32]) -> Refusal
     Refusal::from_number(value_at(words, 0), value_at(words, 1)).unwrap_or(Refusal::BadWord)
 }
 
-fn stated_in(words: &[u32]) -> Statement
+fn stated_in(words: &[u32]) -> StatedTerm
     ensures { result ≡ stated_in words.now }
 {
-    Statement {
+    StatedTerm {
         term: value_at(words, 2),
         pool: value_at(words, 3),
         status: status_at(words, 4),

@@ -8,8 +8,8 @@ ghost use Rattle.words.specs.declared.kind.Kind.TheVariants.{Figure};
 ghost use Rattle.calls.specs.declared.call.Answer.TheVariants.{Stated};
 
 use crate::row::Encoded;
-use calls::{Answer, Stated as Statement};
-use words::{Kind, VALUES, word};
+use calls::{Answer, StatedTerm};
+use words::{Kind, VALUE_COUNT, word};
 
 // An answer's words: two, or eighteen for a statement.
 pub fn encode(answer: &Answer) -> Encoded
@@ -35,7 +35,7 @@ fn two(kind: Kind, value: u32, figure: u32) -> Encoded
     words
 }
 
-fn statement(stated: &Statement) -> Encoded
+fn statement(stated: &StatedTerm) -> Encoded
     ensures words { result.items ≡ answer_words (Stated stated.now) }
     ensures len { array_vec_len result ≡ 18 }
 {
@@ -95,5 +95,5 @@ fn part_word(line: i64, part: u64) -> u32
 fn low(size: u64) -> u32
     ensures { result ≡ size % 268435456 }
 {
-    (size % u64::from(VALUES)) as u32
+    (size % u64::from(VALUE_COUNT)) as u32
 }

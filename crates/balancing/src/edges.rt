@@ -1,14 +1,17 @@
 // A pair of edges, the lower one never above the upper one.
 ghost use Rattle.std.specs.Prelude.{◌≡◌, pos, neg_ℤ, ◌≤ℤ◌, is_some, IfSome};
+ghost use Rattle.amounts.specs.Limits.{gas_limit};
 ghost use Rattle.balancing.specs.Bands.{is_band};
+
+use amounts::GAS_LIMIT;
 
 #[derive(Clone, Copy, Debug, PartialEq, Eq)]
 pub struct Edges {
     pub lower: i32,
     pub upper: i32,
     ghost ordered: { lower ≤ℤ upper },
-    ghost floor: { neg_ℤ (pos 200000000) ≤ℤ lower },
-    ghost ceiling: { upper ≤ℤ pos 200000000 },
+    ghost floor: { neg_ℤ (pos gas_limit) ≤ℤ lower },
+    ghost ceiling: { upper ≤ℤ pos gas_limit },
 }
 
 impl Edges {
@@ -17,7 +20,7 @@ impl Edges {
         ensures test { is_some result ≡ is_band lower upper }
         ensures given { IfSome result (λ e. (e.lower ≡ lower) × (e.upper ≡ upper)) }
     {
-        if lower > upper || lower < -200_000_000 || upper > 200_000_000 {
+        if lower > upper || lower < -(GAS_LIMIT as i32) || upper > GAS_LIMIT as i32 {
             return None;
         }
         Some(Edges { lower, upper })

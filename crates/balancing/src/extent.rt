@@ -1,6 +1,9 @@
 // A term's extent: its MDV and its number of days.
 ghost use Rattle.std.specs.Prelude.{◌≡◌, ◌*◌, ◌≤◌, is_some, IfSome};
+ghost use Rattle.balancing.specs.Limits.{volume_limit};
 ghost use Rattle.balancing.specs.Terms.{is_term};
+
+use crate::limits::{MDV_LIMIT, TERM_DAYS};
 
 // How much gas a term moves a day, and on how many days.
 #[derive(Clone, Copy, Debug, PartialEq, Eq)]
@@ -14,9 +17,9 @@ impl Extent {
     pub fn volume(self) -> Option<u32>
         ensures test { is_some result ≡ is_term self.mdv self.days }
         ensures volume { IfSome result (λ v. v ≡ self.mdv * self.days) }
-        ensures most { IfSome result (λ v. v ≤ 183000000) }
+        ensures most { IfSome result (λ v. v ≤ volume_limit) }
     {
-        if !(1..=500_000).contains(&self.mdv) || !(1..=366).contains(&self.days) {
+        if !(1..=MDV_LIMIT).contains(&self.mdv) || !(1..=TERM_DAYS).contains(&self.days) {
             return None;
         }
         Some(self.mdv * self.days)

@@ -4,6 +4,7 @@
 mod edges;
 mod egd;
 mod extent;
+mod limits;
 mod north;
 mod rule;
 mod settling;
@@ -14,6 +15,7 @@ mod tests;
 pub use edges::Edges;
 pub use egd::Egd;
 pub use extent::Extent;
+pub use limits::{MDV_LIMIT, TERM_DAYS};
 pub use north::North;
 pub use rule::BalancingRule;
 pub use settling::settle;

@@ -2,7 +2,9 @@
 #![tactic(auto)]
 
 mod dates;
+mod days;
 mod months;
 
 pub use dates::{Date, date_of};
+pub use days::{LAST_DAY, MONTH_COUNT};
 pub use months::{last_of, month_of};

@@ -1,6 +1,7 @@
 -- The refusals' numbers and values.
 use Rattle.std.specs.Prelude.{ℕ, cond, List, [], ◌∷◌, ◌++◌, codes, decimal, Some, None, Option, ◌==◌}
 use Rattle.std.specs.Option.{option_map_or}
+use Rattle.amounts.specs.Limits.{gas_limit, charge_limit}
 use Rattle.amounts.specs.declared.row.Fault.{Fault}
 use Rattle.amounts.specs.declared.row.Fault.TheVariants.{NoPlace, PastLimit}
 use Rattle.prices.specs.declared.source.Lack.{Lack}
@@ -68,10 +69,10 @@ refusal_at n day =
     (cond (n == 19) (Some NoRoom) None)))))))))))
 
 -- A refused addition becomes 9 for gas and 10 for charges.
-abbrev pub gas_refusal : Fault 200000000 → Refusal
+abbrev pub gas_refusal : Fault gas_limit → Refusal
 gas_refusal NoPlace = NoTerm
 gas_refusal PastLimit = GasLimit
 
-abbrev pub charge_refusal : Fault 100000000000000 → Refusal
+abbrev pub charge_refusal : Fault charge_limit → Refusal
 charge_refusal NoPlace = NoTerm
 charge_refusal PastLimit = ChargeLimit

@@ -20,13 +20,13 @@ pub enum Call {
 #[derive(Clone, Copy, Debug, PartialEq, Eq)]
 pub enum Answer {
     Done(u32),
-    Stated(Stated),
+    Stated(StatedTerm),
     Refused(Refusal),
 }
 
 // A term as a statement has it: volumes in m³, lines in micros.
 #[derive(Clone, Copy, Debug, PartialEq, Eq)]
-pub struct Stated {
+pub struct StatedTerm {
     pub term: u32,
     pub pool: u32,
     pub status: Status,

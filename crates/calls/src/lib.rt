@@ -8,7 +8,7 @@ mod refusal;
 mod status;
 
 pub use arguments::{Opening, Posting};
-pub use call::{Answer, Call, Stated};
+pub use call::{Answer, Call, StatedTerm};
 pub use numbers::UnknownNumber;
 pub use refusal::{Refusal, Rule};
 pub use status::Status;

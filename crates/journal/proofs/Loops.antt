@@ -7,8 +7,11 @@ use Rattle.std.proofs.lemmas.Bool.{cond-false, le-ltb}
 use Rattle.calls.specs.declared.call.Answer.{Answer}
 use Rattle.calls.specs.declared.call.Call.{Call}
 use Rattle.calls.specs.declared.refusal.Refusal.TheVariants.{BadWord, NoRoom}
-use Rattle.ledger.specs.Book.{State}
-use Rattle.ledger.specs.Calls.{Meaning, Meets, step}
+use Rattle.book.specs.State.{State}
+use Rattle.book.specs.Meanings.{Meaning}
+use Rattle.book.specs.Rulings.{Meets}
+use Rattle.book.specs.Step.{step}
+use Rattle.words.specs.Limits.{journal_words}
 use Rattle.words.specs.Reading.{read_call, Used}
 use Rattle.answers.specs.Writing.{answer_words}
 use Rattle.journal.specs.Runs.{Runs, answering, run_from, run}
@@ -113,7 +116,7 @@ module _ (m : Meaning) (words : List ℕ) (room : ℕ) (start : State) (before a
 
 -- a journal of at most 8,192 words is read
 pub reads : (m : Meaning) (words : List ℕ) (room : ℕ) (start s : State) (r : Ran) (before answers : List ℕ)
-    → length words ≤ 8192 → Runs (run_from m words 0 0 room start) r before answers s
+    → length words ≤ journal_words → Runs (run_from m words 0 0 room start) r before answers s
     → Runs (run m words room start) r before answers s
 reads m words room start s r before answers h x =
-    subst (λ e. Runs e r before answers s) (sym (cond-false _ _ _ (le-ltb 8192 (length words) h))) x
+    subst (λ e. Runs e r before answers s) (sym (cond-false _ _ _ (le-ltb journal_words (length words) h))) x

@@ -4,8 +4,9 @@ use Rattle.std.proofs.Common.{length, drop, Ok, Err, refl, ap, ◌∙◌, arith}
 use Rattle.std.proofs.lemmas.Bool.{lt-ltb, le-ltb}
 use Rattle.calls.specs.declared.call.Call.{Call}
 use Rattle.calls.specs.declared.refusal.Refusal.TheVariants.{BadWord, NoRoom}
-use Rattle.ledger.specs.Book.{State}
-use Rattle.ledger.specs.Calls.{Meaning, step}
+use Rattle.book.specs.State.{State}
+use Rattle.book.specs.Meanings.{Meaning}
+use Rattle.book.specs.Step.{step}
 use Rattle.words.specs.Reading.{read_call}
 use Rattle.answers.specs.Writing.{answer_words}
 use Rattle.journal.specs.Runs.{stopped, answering, run_from}

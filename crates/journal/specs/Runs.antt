@@ -4,8 +4,11 @@ use Rattle.std.specs.Prelude.{length, drop, Some, None, Ok, Err, Option, Result,
 use Rattle.calls.specs.declared.call.Call.{Call}
 use Rattle.calls.specs.declared.refusal.Refusal.{Refusal}
 use Rattle.calls.specs.declared.refusal.Refusal.TheVariants.{BadWord, OutOfRange, NoRoom}
-use Rattle.ledger.specs.Book.{State}
-use Rattle.ledger.specs.Calls.{Meaning, Outcome, step}
+use Rattle.book.specs.State.{State}
+use Rattle.book.specs.Meanings.{Meaning}
+use Rattle.book.specs.Rulings.{Outcome}
+use Rattle.book.specs.Step.{step}
+use Rattle.words.specs.Limits.{journal_words}
 use Rattle.words.specs.Reading.{read_call}
 use Rattle.answers.specs.Writing.{answer_words}
 use Rattle.journal.specs.declared.ran.Ran.{Ran}
@@ -43,7 +46,7 @@ run_from m (w ∷ ws) place zero room s =
 
 -- A journal of more than 8,192 words is refused with 5 at place 0, unread; any other is run from its first word.
 abbrev pub run : Meaning → List ℕ → ℕ → State → Ending
-run m words room s = cond (nat_lt 8192 (length words)) (stopped s OutOfRange 0) (run_from m words 0 0 room s)
+run m words room s = cond (nat_lt journal_words (length words)) (stopped s OutOfRange 0) (run_from m words 0 0 room s)
 
 -- A run is the book's: the state after it, the words that it wrote at the front of the answer memory and how many
 -- they are, the memory past them as it was, and where and why it stopped.

@@ -1,6 +1,7 @@
 // Running a journal into a ledger.
 ghost use Rattle.std.specs.Prelude.{◌≡◌, ◌≤◌, length, IfSome};
-ghost use Rattle.ledger.specs.View.{view};
+ghost use Rattle.tables.specs.View.{view};
+ghost use Rattle.words.specs.Limits.{journal_words};
 ghost use Rattle.journal.specs.Runs.{run, Runs, stopped_at};
 
 use crate::memory::{answer_len, put};
@@ -8,8 +9,9 @@ use crate::ran::Ran;
 use crate::stop::Stop;
 use answers::encode;
 use calls::Refusal;
-use ledger::{Ledger, RateZone};
-use words::Reader;
+use ledger::Ledger;
+use words::{JOURNAL_WORDS, Reader};
+use zones::RateZone;
 
 // Reads the words to their end or to a stop, makes each call that is read, and writes the answers.
 // Kept: the C interface needs it: it lends the answer memory, and learns how much of it is written.
@@ -17,10 +19,10 @@ pub fn run<Z: RateZone>(ledger: &mut Ledger<Z>, words: &[u32], answers: &mut [u3
     ensures ran { Runs
         (run (Z.means ledger.old.zone) words.now (length answers.old) (view ledger.old.tables))
         result answers.old answers.new (view ledger.new.tables) }
-    ensures near { IfSome result.stop (λ s. s.place ≤ 8192) }
+    ensures near { IfSome result.stop (λ s. s.place ≤ journal_words) }
     ensures zone { ledger.new.zone ≡ ledger.old.zone }
 {
-    if words.len() > 8192 {
+    if words.len() > JOURNAL_WORDS {
         return stopped(0, Refusal::OutOfRange, 0);
     }
     let mut written = 0;
@@ -32,7 +34,7 @@ pub fn run<Z: RateZone>(ledger: &mut Ledger<Z>, words: &[u32], answers: &mut [u3
             Ok(call) => call,
             Err(misread) => return stopped(written, Refusal::BadWord, misread.place),
         };
-        if answers.len() - written < answer_len(&ledger.tables, &call) {
+        if answers.len() - written < answer_len(ledger, &call) {
             return stopped(written, Refusal::NoRoom, place);
         }
         let answer = encode(&ledger.apply(call));

@@ -1,7 +1,2 @@
-pub mod Book
-pub mod Calls
-pub mod Laws
+pub mod Answering
 pub mod Making
-pub mod Meanings
-pub mod Plans
-pub mod View

@@ -1,26 +1,18 @@
 // The ledger's calls over every rate zone.
-ghost use Rattle.std.specs.Prelude.{◌≡◌};
-ghost use Rattle.ledger.specs.Calls.{Meets, post_call, step, answered, given};
-ghost use Rattle.ledger.specs.Laws.{Keeps};
-ghost use Rattle.ledger.specs.View.{view};
+ghost use Rattle.std.specs.Prelude.{◌≡◌, not};
+ghost use Rattle.book.specs.Accounts.{missing};
+ghost use Rattle.book.specs.Rulings.{Meets};
+ghost use Rattle.book.specs.Step.{step};
+ghost use Rattle.ledger.specs.Answering.{given};
+ghost use Rattle.runs.specs.Keeping.{Keeps};
+ghost use Rattle.tables.specs.View.{view};
 
-use crate::books::Ledger;
-use crate::rate_zone::RateZone;
-use calls::{Answer, Call, Posting, Refusal};
+use crate::ledger::Ledger;
+use accounts::{day, open, post, statement};
+use calls::{Answer, Call, Refusal};
+use zones::RateZone;
 
 impl<Z: RateZone> Ledger<Z> {
-    // Books a term's next unposted day and answers it.
-    fn post(&mut self, day: Posting) -> Result<u32, Refusal>
-        ensures call { Meets
-            (post_call (Z.means self.old.zone).overrun (view self.old.tables) day.term day.delivered day.consumed)
-            (answered result) (view self.new.tables) }
-        ensures zone { self.new.zone ≡ self.old.zone }
-    {
-        let plan = self.tables.plan_post(day)?;
-        let owed = plan.owed(&self.zone)?;
-        self.tables.book_post(plan, owed)
-    }
-
     // The call, one row for each.
     fn make(&mut self, call: Call) -> Result<Answer, Refusal>
         ensures call { Meets
@@ -29,10 +21,10 @@ impl<Z: RateZone> Ledger<Z> {
         ensures zone { self.new.zone ≡ self.old.zone }
     {
         Ok(match call {
-            Call::Day => Answer::Done(self.tables.turn()?),
-            Call::Open(opening) => Answer::Done(self.tables.open(opening)?),
-            Call::Post(posting) => Answer::Done(self.post(posting)?),
-            Call::Statement { term } => Answer::Stated(self.tables.state(term)?),
+            Call::Day => Answer::Done(day::turn(&mut self.tables)?),
+            Call::Open(opening) => Answer::Done(open::open(&mut self.tables, opening)?),
+            Call::Post(posting) => Answer::Done(post::post(&mut self.tables, &self.zone, posting)?),
+            Call::Statement { term } => Answer::Stated(statement::state(&self.tables, term)?),
         })
     }
 
@@ -45,5 +37,14 @@ impl<Z: RateZone> Ledger<Z> {
         ensures zone { self.new.zone ≡ self.old.zone }
     {
         self.make(call).unwrap_or_else(Answer::Refused)
+    }
+}
+
+impl<Z> Ledger<Z> {
+    // Whether there is a term of this number.
+    pub fn has_term(&self, term: u32) -> bool
+        ensures { result ≡ not (missing (view self.now.tables).accounts term) }
+    {
+        self.tables.place(term).is_ok()
     }
 }

@@ -1,27 +1,12 @@
-// The ledger of banked gas accounts: its tables, its calls, and in specs/ the plain book that they keep.
+// The ledger of banked gas accounts: making one, and applying calls to it.
 #![tactic(auto)]
 
-mod allowances;
 mod apply;
-mod booking;
-mod books;
-mod days;
-mod failing;
+mod egd;
+mod ledger;
 mod making;
-mod opening;
-mod plan;
-mod post;
-mod pricing;
-mod rate_zone;
-mod stating;
-mod tables;
-mod term;
-mod zone;
+mod northern;
 
-pub use allowances::Allowances;
-pub use books::Ledger;
-pub use failing::NotMade;
-pub use rate_zone::RateZone;
-pub use tables::Tables;
-pub use term::Term;
-pub use zone::Zone;
+pub use egd::{EgdLedger, egd_ledger};
+pub use ledger::Ledger;
+pub use northern::{NorthLedger, north_ledger};

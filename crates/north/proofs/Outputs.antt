@@ -4,8 +4,8 @@ use Rattle.std.proofs.Common.{IfOk, Some, vec_items, Result, sym, ap, ◌∙◌,
 use Rattle.std.proofs.lemmas.List.{take_at, take_all}
 use Rattle.journal.specs.Runs.{Ending, Runs, run}
 use Rattle.journal.specs.declared.ran.Ran.{Ran}
-use Rattle.ledger.specs.Book.{State}
-use Rattle.ledger.specs.Calls.{Meaning}
+use Rattle.book.specs.Meanings.{Meaning}
+use Rattle.book.specs.State.{State}
 use Rattle.north.specs.North.{Written, price_in, with_price, priced_run, north_run}
 use Rattle.north.specs.declared.output.Output.{Output}
 

@@ -5,14 +5,16 @@ use Rattle.calls.specs.Refusals.{number_of}
 use Rattle.calls.specs.declared.refusal.Refusal.TheVariants.{BadWord}
 use Rattle.journal.specs.Runs.{Ending, run}
 use Rattle.journal.specs.declared.stop.Stop.{Stop}
-use Rattle.ledger.specs.Book.{new_book}
+use Rattle.book.specs.State.{new_book}
+use Rattle.prices.specs.Limits.{price_limit}
 use Rattle.words.specs.Kinds.{kind_in, value_in, word}
+use Rattle.words.specs.Limits.{journal_words}
 use Rattle.words.specs.declared.kind.Kind.TheVariants as kind
 use Rattle.zones.specs.Ledgers.{north_means, north_allowances}
 
 -- A price word is a figure of 0 or more, and at most 10,000,000.
 abbrev pub price_in : ℕ → Option ℕ
-price_in w = cond (kind_in w == 6 && nat_le (value_in w) 10000000) (Some (value_in w)) None
+price_in w = cond (kind_in w == 6 && nat_le (value_in w) price_limit) (Some (value_in w)) None
 
 -- The answer words, and where reading stopped.
 pub record Written : Type 0 where
@@ -32,7 +34,7 @@ no_price = record { words = []; stop = Some (record { refusal = BadWord; place =
 
 -- A journal under a reference price, with 8,192 words of answer memory.
 abbrev pub priced_run : ℕ → List ℕ → Written
-priced_run price journal = written (run (north_means price) journal 8192 (new_book north_allowances))
+priced_run price journal = written (run (north_means price) journal journal_words (new_book north_allowances))
 
 abbrev pub with_price : Option ℕ → List ℕ → Written
 with_price None journal = no_price

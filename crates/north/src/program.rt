@@ -1,21 +1,22 @@
 // A northern journal run from its words, and from its bytes to the bytes of its answers.
 ghost use Rattle.std.specs.Prelude.{◌≡◌, ◌≤◌, IfOk, IfErr, IfSome, Some, MatchOption};
 ghost use Rattle.std.specs.Option.{ForSome};
+ghost use Rattle.words.specs.Limits.{journal_words};
 ghost use Rattle.north.specs.North.{no_price, priced_run, north_run, north_words, north_bytes, moved, stop_words};
 
 use crate::output::Output;
 use crate::price::price_of;
 use calls::Refusal;
 use journal::{Stop, run};
-use ledger::NotMade;
+use ledger::north_ledger;
 use octets::{bytes_of, words_in};
 use std::alloc::Global;
-use words::{Kind, VALUES, word};
-use zones::north_ledger;
+use words::{JOURNAL_WORDS, Kind, VALUE_COUNT, word};
+use zones::NotMade;
 
 // A place in the input is the journal's plus 1.
 fn behind_price(stop: Option<Stop>) -> Option<Stop>
-    requires { ForSome stop (λ s. s.place ≤ 8192) }
+    requires { ForSome stop (λ s. s.place ≤ journal_words) }
     ensures { result ≡ moved stop }
 {
     stop.map(|stop| Stop {
@@ -33,7 +34,7 @@ fn run_priced(heap: Global, price: u32, journal: &[u32]) -> Result<Output, NotMa
     ensures memory { IfErr result (λ e. e ≡ NotMade.NoMemory) }
 {
     let mut ledger = north_ledger(heap, price)?;
-    let mut answers = vec![in heap; 0; 8192]?;
+    let mut answers = vec![in heap; 0; JOURNAL_WORDS]?;
     let ran = run(&mut ledger, journal, &mut answers);
     answers.truncate(ran.written);
     Ok(Output {
@@ -83,7 +84,7 @@ fn words_of(stop: Stop) -> [u32; 2]
 {
     [
         word(Kind::Refused, stop.refusal.rule().number),
-        word(Kind::Number, (stop.place % VALUES as usize) as u32),
+        word(Kind::Number, (stop.place % VALUE_COUNT as usize) as u32),
     ]
 }
 

@@ -1,11 +1,12 @@
 // The EGD ledger: how it is made, and journals that run through it.
 use crate::tools::{last_answer, opening, posting, statement, turn};
 use calls::{Answer, Call, Opening, Refusal};
-use ledger::{Allowances, NotMade};
+use book::Allowances;
 use prices::Lack;
 use std::alloc::Global;
 use std::test::Fail;
-use zones::{EgdLedger, egd_ledger};
+use ledger::{EgdLedger, egd_ledger};
+use zones::NotMade;
 
 const ALLOWED: Allowances = Allowances {
     western: 500_000,

@@ -22,7 +22,7 @@ fn long_journals(rt: HostRuntime) -> Result<(), Fail> {
 
 #[test]
 fn exact_and_short_memory(rt: HostRuntime) -> Result<(), Fail> {
-    let mut ledger = zones::north_ledger(rt.alloc(), 1)?;
+    let mut ledger = ledger::north_ledger(rt.alloc(), 1)?;
     let mut short = [7];
     let ran = journal::run(&mut ledger, &[DAY], &mut short);
     assert_eq!(rt; ran.written, 0);

@@ -3,7 +3,7 @@ use crate::tools::{last_answer, opening, posting, statement, turn};
 use calls::{Answer, Call, Opening, Posting, Refusal};
 use std::alloc::Global;
 use std::test::Fail;
-use zones::{NorthLedger, north_ledger};
+use ledger::{NorthLedger, north_ledger};
 
 const FIRST: Answer = Answer::Done(1);
 const LAST_DAY: Answer = Answer::Refused(Refusal::LastDay);

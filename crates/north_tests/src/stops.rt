@@ -52,7 +52,7 @@ fn wrong_unknown_and_missing_words(rt: HostRuntime) -> Result<(), Fail> {
 #[test]
 fn what_stops_a_run_1_5_19(rt: HostRuntime) -> Result<(), Fail> {
     let heap = rt.alloc();
-    let mut ledger = zones::north_ledger(heap, 1)?;
+    let mut ledger = ledger::north_ledger(heap, 1)?;
     let mut long = vec![in heap; DAY; 8192]?;
     let mut memory = vec![in heap; 0; 16_384]?;
     let ran = journal::run(&mut ledger, &long, &mut memory);

@@ -1,7 +1,8 @@
 // What the tests share: inputs by their words, runs of calls, and what is looked for in an output.
 use answers::read_answers;
 use calls::{Answer, Call, Opening, Posting, Stated};
-use ledger::{Ledger, RateZone};
+use ledger::Ledger;
+use zones::RateZone;
 use north::run_words;
 use std::alloc::Global;
 use std::test::Fail;

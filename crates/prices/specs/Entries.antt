@@ -4,12 +4,13 @@ use Rattle.std.proofs.lemmas.Bool.{cond_both, leb-true, and_parts}
 use Rattle.calendar.specs.Months.{month_at}
 use Rattle.prices.specs.Ends.{entry_at, daily_price, in_month, monthly_price}
 use Rattle.prices.specs.Means.{FairDay}
+use Rattle.prices.specs.Limits.{price_limit}
 
 entry_fair : (ps : List ℕ) (i : ℕ) → FairDay (entry_at ps i)
 entry_fair ps i =
-    cond_both (nat_lt i (length ps) && nat_le (slice_index ps i) 10000000) (Some (slice_index ps i)) None FairDay
-    (λ e. leb-true (slice_index ps i) 10000000
-    (and_parts (nat_lt i (length ps)) (nat_le (slice_index ps i) 10000000) e).1) (λ e. tt)
+    cond_both (nat_lt i (length ps) && nat_le (slice_index ps i) price_limit) (Some (slice_index ps i)) None FairDay
+    (λ e. leb-true (slice_index ps i) price_limit
+    (and_parts (nat_lt i (length ps)) (nat_le (slice_index ps i) price_limit) e).1) (λ e. tt)
 
 pub daily_fair : (start : ℕ) (ps : List ℕ) (day : ℕ) → FairDay (daily_price start ps day)
 daily_fair start ps day =

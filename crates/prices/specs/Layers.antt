@@ -1,14 +1,15 @@
 -- Layers: each turns the price beneath it into another, and hands a lack up as it is.
-use Rattle.std.specs.Prelude.{ℕ, ◌+◌, ◌*◌, ◌/◌, min, Bool, ◌&&◌, ℤ, pos, negsuc, ◌+ℤ◌, int_le, nat_le}
+use Rattle.std.specs.Prelude.{ℕ, ◌+◌, ◌*◌, ◌/◌, min, Bool, ◌&&◌, ℤ, pos, negsuc, neg_ℤ, ◌+ℤ◌, int_le, nat_le}
 use Rattle.prices.specs.declared.point.Point.{Point}
 use Rattle.prices.specs.declared.by_point.ByPoint.{ByPoint}
 use Rattle.prices.specs.Over.{over}
 use Rattle.prices.specs.Points.{at_point}
 use Rattle.prices.specs.Quotes.{Quote}
+use Rattle.prices.specs.Limits.{price_limit, toll_limit}
 
 -- No price is above 10,000,000.
 abbrev pub capped : ℕ → ℕ
-capped p = min p 10000000
+capped p = min p price_limit
 
 -- A share is 1 to 300 per cent.
 abbrev pub is_percent : ℕ → Bool
@@ -27,7 +28,7 @@ Tolls = ByPoint ℤ
 
 -- A toll is within 1,000,000 of 0, on either side.
 abbrev pub is_toll : ℤ → Bool
-is_toll toll = int_le (negsuc 999999) toll && int_le toll (pos 1000000)
+is_toll toll = int_le (neg_ℤ (pos toll_limit)) toll && int_le toll (pos toll_limit)
 
 abbrev pub are_tolls : Tolls → Bool
 are_tolls t = is_toll t.western && (is_toll t.dawn && is_toll t.ontario)

@@ -1,13 +1,14 @@
-pub mod Days
 pub mod Ends
 pub mod Lacks
 pub mod Laws
 pub mod Layers
+pub mod Limits
 pub mod Means
 pub mod Over
 pub mod Points
 pub mod Quotes
 pub mod Sources
+pub mod Spans
 pub mod Totals
 pub mod Worked
 pub mod Entries

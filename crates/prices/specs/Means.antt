@@ -4,6 +4,7 @@ use Rattle.std.specs.Prelude.{Some, None, Ok, Err, sum, Option, Result}
 use Rattle.std.specs.List.{range_with_len}
 use Rattle.prices.specs.declared.source.Lack.{Lack}
 use Rattle.prices.specs.Over.{over}
+use Rattle.prices.specs.Limits.{price_limit}
 
 -- What is said of a day's price holds of a day that has none.
 abbrev pub Priced : (ℕ → Type 0) → Option ℕ → Type 0
@@ -12,7 +13,7 @@ Priced P None = Unit {0}
 
 -- A day's price is at most 10,000,000.
 abbrev pub FairDay : Option ℕ → Type 0
-FairDay o = Priced (λ p. p ≤ 10000000) o
+FairDay o = Priced (λ p. p ≤ price_limit) o
 
 -- The days of a span, both ends within it.
 abbrev pub span_days : ℕ → ℕ → List ℕ

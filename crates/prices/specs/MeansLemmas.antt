@@ -12,6 +12,8 @@ use Rattle.prices.specs.Over.{over}
 use Rattle.prices.specs.Quotes.{Fair}
 use Rattle.prices.specs.Laws.{FirstLack, EachDay, Between}
 use Rattle.prices.specs.Means.{FairDay, Priced, span_days, led_by, prices_on, rounded, mean_price, mean_of}
+use Rattle.prices.specs.Limits.{price_limit}
+use Rattle.calendar.specs.Days.{last_day}
 
 -- a mean of n prices lies within the bounds of their sum
 twice : (m n : ℕ) → m * (2 * n) ≡ 2 * (n * m)
@@ -108,11 +110,12 @@ module _ (price : ℕ → Option ℕ) where
       between_over from to (prices_on price (span_days from to)) f (length_on from (to + 1 - from))
       (λ P h. all_on P from (to + 1 - from) (λ d k l. h d k (omega arith)))
 
-  fair_from : (from to : ℕ) (r : Result ℕ Lack) → ((d : ℕ) → FairDay (price d)) → FirstLack price from to r
-      → Between price from to r → Fair from to r
-  fair_from from to (Ok m) fair h b = b.1 10000000 (λ d _ _. fair d)
-  fair_from from to (Err l) fair h b = (h.0, h.1)
+  fair_from : (from to : ℕ) (r : Result ℕ Lack) → 1 ≤ from → to ≤ last_day → ((d : ℕ) → FairDay (price d))
+      → FirstLack price from to r → Between price from to r → Fair r
+  fair_from from to (Ok m) low high fair h b = b.1 price_limit (λ d _ _. fair d)
+  fair_from from to (Err l) low high fair h b = (omega (arith, low, h.0), omega (arith, high, h.1))
 
-  pub mean_fair : (from to : ℕ) → from ≤ to → ((d : ℕ) → FairDay (price d)) → Fair from to (mean_of price from to)
-  mean_fair from to f fair = fair_from from to (mean_of price from to) fair (mean_first from to f)
-      (mean_between from to f)
+  pub mean_fair : (from to : ℕ) → 1 ≤ from → from ≤ to → to ≤ last_day → ((d : ℕ) → FairDay (price d))
+      → Fair (mean_of price from to)
+  mean_fair from to low f high fair =
+      fair_from from to (mean_of price from to) low high fair (mean_first from to f) (mean_between from to f)

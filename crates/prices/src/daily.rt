@@ -6,6 +6,7 @@ ghost use Rattle.prices.specs.Entries.{daily_fair};
 use crate::days::DayPrices;
 use crate::entry::entry;
 use crate::refused::OutOfRange;
+use calendar::LAST_DAY;
 
 #[derive(Debug, Drop, PartialEq, Eq)]
 pub struct Daily {
@@ -20,7 +21,7 @@ impl Daily {
         ensures test { is_ok result ≡ is_daily start (vec_len prices) }
         ensures made { IfOk result (λ s. (s.start ≡ start) × (s.prices ≡ prices)) }
     {
-        if !(1..=3653).contains(&start) || prices.len() > 3653 {
+        if !(1..=LAST_DAY).contains(&start) || prices.len() > LAST_DAY as usize {
             return Err(OutOfRange);
         }
         Ok(Daily { start, prices })

@@ -24,7 +24,7 @@ pub trait DayPrices {
 impl<D: DayPrices> PriceSource for D {
     ghost quote = { λ s _ from to. mean_of (D.posted s) from to };
 
-    ghost fair = { λ s _ from to low forward high. mean_fair _ from to forward (D.DayPrices.fair s) };
+    ghost fair = { λ s _ from to low forward high. mean_fair _ from to low forward high (D.DayPrices.fair s) };
 
     fn price(&self, _point: Point, span: Span) -> Result<u32, Lack> {
         mean(self, span)

@@ -2,6 +2,8 @@
 ghost use Rattle.std.specs.Prelude.{◌≡◌};
 ghost use Rattle.prices.specs.Ends.{entry_at};
 
+use crate::limits::PRICE_LIMIT;
+
 // The entry at an index; one above 10,000,000 or past the list is missing.
 pub(crate) fn entry(prices: &[u32], index: u32) -> Option<u32>
     ensures { result ≡ entry_at prices.now index }
@@ -9,5 +11,5 @@ pub(crate) fn entry(prices: &[u32], index: u32) -> Option<u32>
     prices
         .get(index as usize)
         .copied()
-        .filter(|&price| price <= 10_000_000)
+        .filter(|&price| price <= PRICE_LIMIT)
 }

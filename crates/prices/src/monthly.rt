@@ -5,6 +5,7 @@ ghost use Rattle.prices.specs.Entries.{monthly_fair};
 
 use crate::days::DayPrices;
 use crate::entry::entry;
+use crate::limits::MONTHLY_PLACES;
 use crate::refused::OutOfRange;
 use calendar::month_of;
 
@@ -20,7 +21,7 @@ impl Monthly {
         ensures test { is_ok result ≡ is_monthly (vec_len prices) }
         ensures made { IfOk result (λ s. s.prices ≡ prices) }
     {
-        if prices.len() > 120 {
+        if prices.len() > MONTHLY_PLACES {
             return Err(OutOfRange);
         }
         Ok(Monthly { prices })

@@ -3,6 +3,7 @@ ghost use Rattle.std.specs.Prelude.{◌≡◌, true, is_ok, IfOk};
 ghost use Rattle.prices.specs.Layers.{is_percent, shared};
 ghost use Rattle.std.proofs.Common.{rules, arith};
 
+use crate::limits::PRICE_LIMIT;
 use crate::point::Point;
 use crate::refused::OutOfRange;
 use crate::source::{Lack, PriceSource};
@@ -36,6 +37,6 @@ impl<S: PriceSource> PriceSource for Share<S> {
     fn price(&self, point: Point, span: Span) -> Result<u32, Lack> {
         let price = self.source.price(point, span)?;
         let share = (u64::from(price) * u64::from(self.percent) + 50) / 100;
-        Ok(share.min(10_000_000) as u32)
+        Ok(share.min(u64::from(PRICE_LIMIT)) as u32)
     }
 }

@@ -1,7 +1,6 @@
 // The trait of price sources, with its meaning.
-ghost use Rattle.std.specs.Prelude.{◌≡◌, ℕ, ◌≤◌, Some};
-ghost use Rattle.prices.specs.Quotes.{Quote, Fair};
-ghost use Rattle.prices.specs.declared.point.Point.{Point};
+ghost use Rattle.std.specs.Prelude.{◌≡◌, Some};
+ghost use Rattle.prices.specs.Quotes.{Quote, FairQuote};
 
 use crate::point::Point;
 use crate::span::Span;
@@ -28,13 +27,12 @@ impl fmt::Display for Lack {
 impl Error for Lack {}
 
 pub trait PriceSource {
-    // What the source means: for a point and a span of days, a price or a lacking day of the span.
+    // What the source means: for a point and a span of days, a price or a lacking day.
     ghost quote: { Self → Quote };
 
     fn price(&self, point: Point, span: Span) -> Result<u32, Lack>
         ensures { result ≡ quote self.now point span.from span.to };
 
-    // A price is at most 10,000,000, and a lacking day is one of the span.
-    ghost fair: { (s : Self) (p : Point) (from to : ℕ) → 1 ≤ from → from ≤ to → to ≤ 3653
-        → Fair from to (quote s p from to) };
+    // A price is at most 10,000,000, and a lacking day is a day, 1 to 3,653.
+    ghost fair: { (s : Self) → FairQuote (quote s) };
 }

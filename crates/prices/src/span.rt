@@ -1,8 +1,10 @@
 // A span of days, both ends within it.
 ghost use Rattle.std.specs.Prelude.{◌≡◌, ◌≤◌, true, is_ok, IfOk};
-ghost use Rattle.prices.specs.Days.{is_span};
+ghost use Rattle.calendar.specs.Days.{last_day};
+ghost use Rattle.prices.specs.Spans.{is_span};
 
 use crate::refused::OutOfRange;
+use calendar::LAST_DAY;
 
 #[derive(Clone, Copy, Debug, PartialEq, Eq)]
 pub struct Span {
@@ -10,7 +12,7 @@ pub struct Span {
     pub to: u32,
     ghost starts: { 1 ≤ from },
     ghost forward: { from ≤ to },
-    ghost within: { to ≤ 3653 },
+    ghost within: { to ≤ last_day },
 }
 
 impl Span {
@@ -19,7 +21,7 @@ impl Span {
         ensures test { is_ok result ≡ is_span from to }
         ensures made { IfOk result (λ s. (s.from ≡ from) × (s.to ≡ to)) }
     {
-        if from < 1 || from > to || to > 3653 {
+        if from < 1 || from > to || to > LAST_DAY {
             return Err(OutOfRange);
         }
         Ok(Span { from, to })

@@ -4,6 +4,7 @@ ghost use Rattle.prices.specs.Layers.{is_toll, are_tolls, tolled};
 ghost use Rattle.std.proofs.Common.{rules, arith};
 
 use crate::by_point::Tolls;
+use crate::limits::{PRICE_LIMIT, TOLL_LIMIT};
 use crate::point::Point;
 use crate::refused::OutOfRange;
 use crate::source::{Lack, PriceSource};
@@ -13,7 +14,7 @@ use crate::span::Span;
 fn is_toll(toll: i32) -> bool
     ensures { result ≡ is_toll toll }
 {
-    (-1_000_000..=1_000_000).contains(&toll)
+    (-TOLL_LIMIT..=TOLL_LIMIT).contains(&toll)
 }
 
 #[derive(Debug, Drop, PartialEq, Eq)]
@@ -45,6 +46,6 @@ impl<S: PriceSource> PriceSource for Toll<S> {
     fn price(&self, point: Point, span: Span) -> Result<u32, Lack> {
         let price = self.source.price(point, span)?;
         let toll = self.tolls.at(point);
-        Ok(price.saturating_add_signed(toll).min(10_000_000))
+        Ok(price.saturating_add_signed(toll).min(PRICE_LIMIT))
     }
 }

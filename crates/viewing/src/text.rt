@@ -3,7 +3,7 @@ use crate::entry::Entry;
 use crate::reading::Report;
 use crate::tally::refusals_in;
 use calendar::date_of;
-use calls::{Answer, Call, Refusal, Stated};
+use calls::{Answer, Call, Refusal, StatedTerm};
 use prices::Point;
 use std::fmt;
 
@@ -113,7 +113,7 @@ impl fmt::Display for Because {
 
 // A statement as a table: volumes in m³, lines in dollars.
 #[derive(Clone, Copy)]
-struct Table(pub Stated);
+struct Table(pub StatedTerm);
 
 impl fmt::Display for Table {
     fn fmt<W: fmt::Write>(&self, f: &mut fmt::Formatter<W>) -> fmt::Result {

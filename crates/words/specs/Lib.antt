@@ -2,6 +2,7 @@ pub mod Ends
 pub mod Journal
 pub mod Kinds
 pub mod Laws
+pub mod Limits
 pub mod Lists
 pub mod Misreads
 pub mod Reading

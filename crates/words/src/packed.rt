@@ -3,15 +3,13 @@ ghost use Rattle.std.specs.Prelude.{◌≡◌, ◌==◌};
 ghost use Rattle.words.specs.Kinds.{kind_number, kind_in, value_in, word};
 
 use crate::kind::Kind;
-
-// A word holds this many values: 2 ^ 28.
-pub const VALUES: u32 = 0x1000_0000;
+use crate::limits::VALUE_COUNT;
 
 // The word of a kind and a value; of a value past 28 bits it holds the low 28.
 pub fn word(kind: Kind, value: u32) -> u32
     ensures { result ≡ word kind value }
 {
-    u32::from(kind) * VALUES + value_of(value)
+    u32::from(kind) * VALUE_COUNT + value_of(value)
 }
 
 // The low 28 bits.

@@ -6,7 +6,8 @@ ghost use Rattle.words.specs.Writing.{call_words, fit};
 
 use crate::figures::{figures_of, number_of};
 use crate::kind::Kind;
-use crate::packed::{VALUES, word};
+use crate::limits::VALUE_COUNT;
+use crate::packed::word;
 use crate::row::Written;
 use crate::table::shape;
 use calls::Call;
@@ -15,7 +16,7 @@ use calls::Call;
 pub fn fits(figures: &[u32]) -> bool
     ensures { result ≡ fit figures.now }
 {
-    figures.iter().all(|figure| *figure < VALUES)
+    figures.iter().all(|figure| *figure < VALUE_COUNT)
 }
 
 // The call word, and then the figures in the order of the call's shape.

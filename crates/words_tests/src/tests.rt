@@ -1,6 +1,6 @@
 // Every call by its least and greatest figures, every wrong kind, and the limits.
 use answers::{answer as answer_at, encode};
-use calls::{Answer, Call, Opening, Posting, Refusal, Stated, Status};
+use calls::{Answer, Call, Opening, Posting, Refusal, StatedTerm, Status};
 use std::process::Abort;
 use std::test::Fail;
 use words::{Kind, Misread, Reader, number_of, read_calls, shape, word, write_calls};
@@ -122,7 +122,7 @@ fn answered(rt: &impl Abort, call: &Call, answer: &Answer, len: usize) -> Result
 
 #[test]
 fn answers_return(rt: HostRuntime) -> Result<(), Fail> {
-    let stated = Stated {
+    let stated = StatedTerm {
         term: TOP,
         pool: 1,
         status: Status::Expired,

@@ -2,18 +2,17 @@
 use Rattle.std.specs.Prelude.{◌≡◌, ℕ, ◌<◌, ◌≤◌, Bool, false, ◌&&◌, List, length}
 use Rattle.balancing.specs.Rules.{north_band, egd_band}
 use Rattle.calls.specs.declared.refusal.Refusal.TheVariants.{OutOfRange}
-use Rattle.ledger.specs.Calls.{Meaning}
-use Rattle.ledger.specs.Book.{Allowances}
-use Rattle.ledger.specs.Making.{allowed}
-use Rattle.ledger.specs.declared.failing.NotMade.{NotMade}
-use Rattle.ledger.specs.declared.failing.NotMade.TheVariants.{Refused, NoMemory}
+use Rattle.book.specs.Allowances.{Allowances, allowed}
+use Rattle.book.specs.Meanings.{Meaning, meaning_of}
 use Rattle.prices.specs.Ends.{is_daily, is_monthly}
+use Rattle.prices.specs.Limits.{price_limit}
+use Rattle.zones.specs.declared.not_made.NotMade.{NotMade}
+use Rattle.zones.specs.declared.not_made.NotMade.TheVariants.{Refused, NoMemory}
 use Rattle.zones.specs.Sources.{overrun_quote, shortage_quote, excess_quote, north_quote}
 
 -- North: both edges are 0, and the reference price is the price of all three sources.
 abbrev pub north_means : ℕ → Meaning
-north_means price =
-    record { band = north_band; overrun = north_quote price; shortage = north_quote price; excess = north_quote price }
+north_means price = meaning_of north_band (north_quote price) (north_quote price) (north_quote price)
 
 -- 500,000 may be suspended on a day at each point.
 abbrev pub north_allowances : Allowances
@@ -21,18 +20,13 @@ north_allowances = record { western = 500000; dawn = 500000; ontario = 500000 }
 
 -- It is not made if the price is above 10,000,000, which is refused, or if memory is wanting.
 abbrev pub NorthUnmade : ℕ → NotMade → Type 0
-NorthUnmade price (Refused r) = (r ≡ OutOfRange) × (10000000 < price)
-NorthUnmade price NoMemory = price ≤ 10000000
+NorthUnmade price (Refused r) = (r ≡ OutOfRange) × (price_limit < price)
+NorthUnmade price NoMemory = price ≤ price_limit
 
 -- EGD: its edges, its overrun price from the daily highs, and its shortage and excess prices from the monthly index.
 abbrev pub egd_means : ℕ → List ℕ → List ℕ → Meaning
 egd_means start highs index =
-    record {
-      band = egd_band;
-      overrun = overrun_quote start highs;
-      shortage = shortage_quote index;
-      excess = excess_quote index;
-    }
+    meaning_of egd_band (overrun_quote start highs) (shortage_quote index) (excess_quote index)
 
 -- The figures of its sources are in range.
 abbrev pub egd_sources : ℕ → List ℕ → List ℕ → Bool

@@ -1,3 +1,4 @@
 pub mod Ledgers
 pub mod Sources
+pub mod Unmade
 pub mod Worked

@@ -1,23 +1,22 @@
-// The EGD ledger: balances are carried within 55 thousandths of a term's volume, and the prices come from daily highs
-// and a monthly index.
+// The EGD zone: balances are carried within 55 thousandths of a term's volume, and the prices come from daily highs and
+// a monthly index.
 ghost use Rattle.std.specs.Prelude.{◌≡◌, true, IfOk, IfErr};
-ghost use Rattle.ledger.specs.Book.{new_book};
-ghost use Rattle.ledger.specs.View.{view};
-ghost use Rattle.zones.specs.Ledgers.{egd_means, egd_sources, egd_makes, EgdZoneUnmade, EgdUnmade};
+ghost use Rattle.zones.specs.Ledgers.{egd_means, egd_sources, EgdZoneUnmade};
 
+use crate::not_made::NotMade;
+use crate::rate_zone::RateZone;
 use crate::sources::{egd_excess, egd_overrun, egd_shortage};
+use crate::zone::Zone;
 use balancing::Egd;
-use ledger::{Allowances, Ledger, NotMade, RateZone, Zone};
 use prices::{Daily, Monthly, Share, Toll};
 use std::alloc::Global;
 
 // A zone of EGD's rule, a share of daily highs, and tolls over shares of a monthly index.
 pub type EgdZone = Zone<Egd, Share<Daily>, Toll<Share<Monthly>>, Toll<Share<Monthly>>>;
 
-pub type EgdLedger = Ledger<EgdZone>;
-
-// The zone, refused if the starting day is no day or a list is too long.
-fn egd_zone(heap: Global, start: u32, highs: &[u32], index: &[u32]) -> Result<EgdZone, NotMade>
+// The zone with daily highs from a starting day on and a monthly index from January 2024 on; refused if the starting day
+// is no day or a list is too long.
+pub fn egd_zone(heap: Global, start: u32, highs: &[u32], index: &[u32]) -> Result<EgdZone, NotMade>
     ensures means { IfOk result (λ z. ⟦<EgdZone as RateZone>⟧.means z ≡ egd_means start highs.now index.now) }
     ensures range { IfOk result (λ z. egd_sources start highs.now index.now ≡ true) }
     ensures refused { IfErr result (EgdZoneUnmade start highs.now index.now) }
@@ -31,22 +30,4 @@ fn egd_zone(heap: Global, start: u32, highs: &[u32], index: &[u32]) -> Result<Eg
         shortage,
         excess,
     })
-}
-
-// A new EGD ledger with daily highs from a starting day on and a monthly index from January 2024 on; refused if the
-// starting day is no day, a list is too long or an allowance is above 10,000,000.
-pub fn egd_ledger(
-    heap: Global,
-    start: u32,
-    highs: &[u32],
-    index: &[u32],
-    allowances: Allowances,
-) -> Result<EgdLedger, NotMade>
-    ensures tables { IfOk result (λ l. view l.tables ≡ new_book allowances) }
-    ensures means { IfOk result (λ l. ⟦<EgdZone as RateZone>⟧.means l.zone ≡ egd_means start highs.now index.now) }
-    ensures range { IfOk result (λ l. egd_makes start highs.now index.now allowances ≡ true) }
-    ensures refused { IfErr result (EgdUnmade start highs.now index.now allowances) }
-{
-    let zone = egd_zone(heap, start, highs, index)?;
-    Ledger::new(heap, zone, allowances)
 }

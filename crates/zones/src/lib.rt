@@ -1,12 +1,19 @@
-// The zones: their price sources, the two ledgers, and the worked figures.
+// The rate zones: the trait, a zone of a rule and three price sources, the sources of EGD and of North, and the worked
+// figures.
 #![tactic(auto)]
 
 mod egd;
 mod north;
+mod not_made;
+mod rate_zone;
 mod sources;
 mod worked;
+mod zone;
 
-pub use egd::{EgdLedger, EgdZone, egd_ledger};
-pub use north::{NorthLedger, NorthZone, north_ledger};
+pub use egd::{EgdZone, egd_zone};
+pub use north::{NorthZone, north_zone};
+pub use not_made::NotMade;
+pub use rate_zone::RateZone;
 pub use sources::{egd_excess, egd_overrun, egd_shortage, north_price};
 pub use worked::figures_stand;
+pub use zone::Zone;

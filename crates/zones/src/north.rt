@@ -1,38 +1,27 @@
-// The northern ledger: no balance is carried, one reference price for all three sources, 500,000 suspended at each
-// point.
-ghost use Rattle.std.specs.Prelude.{◌≡◌, IfOk, IfErr};
-ghost use Rattle.ledger.specs.Book.{new_book};
-ghost use Rattle.ledger.specs.View.{view};
-ghost use Rattle.zones.specs.Ledgers.{north_means, north_allowances, NorthUnmade};
+// The northern zone: no balance is carried, and one reference price is the price of all three sources.
+ghost use Rattle.std.specs.Prelude.{◌≡◌, is_ok, IfOk, nat_le};
+ghost use Rattle.prices.specs.Limits.{price_limit};
+ghost use Rattle.zones.specs.Ledgers.{north_means};
 
+use crate::rate_zone::RateZone;
 use crate::sources::north_price;
+use crate::zone::Zone;
 use balancing::North;
-use ledger::{Allowances, Ledger, NotMade, RateZone, Zone};
-use prices::Reference;
-use std::alloc::Global;
+use prices::{OutOfRange, Reference};
 
 // A zone of North's rule and one reference price for each of the three sources.
 pub type NorthZone = Zone<North, Reference, Reference, Reference>;
 
-pub type NorthLedger = Ledger<NorthZone>;
-
-// A new northern ledger, refused if the price is above 10,000,000.
-pub fn north_ledger(heap: Global, price: u32) -> Result<NorthLedger, NotMade>
-    ensures tables { IfOk result (λ l. view l.tables ≡ new_book north_allowances) }
-    ensures means { IfOk result (λ l. ⟦<NorthZone as RateZone>⟧.means l.zone ≡ north_means price) }
-    ensures refused { IfErr result (NorthUnmade price) }
+// The northern zone at a reference price, refused above 10,000,000.
+pub fn north_zone(price: u32) -> Result<NorthZone, OutOfRange>
+    ensures test { is_ok result ≡ nat_le price price_limit }
+    ensures means { IfOk result (λ z. ⟦<NorthZone as RateZone>⟧.means z ≡ north_means price) }
 {
     let source = north_price(price)?;
-    let zone = Zone {
+    Ok(Zone {
         rule: North,
         overrun: source,
         shortage: source,
         excess: source,
-    };
-    let allowances = Allowances {
-        western: 500_000,
-        dawn: 500_000,
-        ontario: 500_000,
-    };
-    Ledger::new(heap, zone, allowances)
+    })
 }

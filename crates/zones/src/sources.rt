@@ -2,6 +2,7 @@
 ghost use Rattle.std.specs.Prelude.{◌≡◌, ◌&&◌, is_ok, IfOk, vec_len, nat_le};
 ghost use Rattle.prices.specs.Ends.{is_daily, is_monthly, monthly_quote};
 ghost use Rattle.prices.specs.Layers.{is_percent, are_tolls, shared, tolled};
+ghost use Rattle.prices.specs.Limits.{price_limit};
 ghost use Rattle.prices.specs.Sources.{reference_means, daily_means, monthly_means, share_means, toll_means};
 ghost use Rattle.zones.specs.Sources.{overrun_quote, shortage_quote, excess_quote, north_quote};
 
@@ -60,7 +61,7 @@ pub fn egd_excess(index: Vec<u32>) -> Result<Toll<Share<Monthly>>, OutOfRange>
 
 // North's overrun, shortage and excess: its reference price.
 pub fn north_price(price: u32) -> Result<Reference, OutOfRange>
-    ensures test { is_ok result ≡ nat_le price 10000000 }
+    ensures test { is_ok result ≡ nat_le price price_limit }
     ensures quote { IfOk result (λ s. reference_means s ≡ north_quote price) }
 {
     Reference::new(price)

@@ -1,20 +1,18 @@
-use Rattle.std.proofs.Common.{◌≡◌, true, false, Ok, Err, Result}
-use Rattle.std.specs.Result.{is_ok, MatchResult}
-use Rattle.std.proofs.lemmas.Bool.{true≢false}
-use Rattle.ledger.specs.Book.{missing}
-use Rattle.ledger.specs.View.{view}
-use Rattle.ledger.proofs.Entries.{lines_five}
-use Rattle.journal.proofs.Lengths.{statement_long}
+use Rattle.std.proofs.Common.{◌≡◌, true, false, arith}
+use Rattle.book.specs.Accounts.{missing}
+use Rattle.tables.specs.View.{view, view_accounts}
+use Rattle.tables.proofs.Accounts.{lines_five}
+use Rattle.journal.proofs.Lengths.{statement_short, statement_long}
 use Rattle.journal.proofs.memory.statement_len.Goals as goal
 
--- what holds wherever a value is, holds where there is one
-held : {T E : Type 0} (P : Type 0) (F : T → Type 0) (Q : E → Type 0) (r : Result T E) → ((x : T) → F x → P)
-    → MatchResult r F Q → true ≡ is_ok r → P
-held P F Q (Ok x) f m t = f x m
-held P F Q (Err e) f m t = absurd (true≢false t)
+pub returns-then-has_term : goal.returns-then-has_term
+returns-then-has_term g c =
+    let t = c.args.ledger.now.tables in
+    let there : missing (view_accounts t) c.args.term ≡ false = grind arith in
+    statement_long (view t) c.args.term there (lines_five t c.args.term there)
 
-pub returns-then-is_ok : goal.returns-then-is_ok
-returns-then-is_ok c =
-    let there = held (missing (view c.args.tables.now) c.args.term ≡ false) _ _ c.place.result (λ x f. f.2)
-    c.place.ensures c.if-is_ok.ensures.value in
-    statement_long (view c.args.tables.now) c.args.term there (lines_five c.args.tables.now c.args.term there)
+pub returns-else-has_term : goal.returns-else-has_term
+returns-else-has_term g c =
+    let t = c.args.ledger.now.tables in
+    let gone : missing (view_accounts t) c.args.term ≡ true = grind arith in
+    statement_short (view t) c.args.term gone

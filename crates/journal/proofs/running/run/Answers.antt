@@ -15,14 +15,14 @@ returns-in-Err g c =
     let h : place < length words = omega (arith, leb-false _ _ (sym c.calls-test.ensures), ap length inv.2) in
     let stop = rw inv.2 at c.in-Err.ensures.read.0 in
     rw c.stopped-in-Err.ensures (record {
-      ran = reads m words _ _ _ _ _ _ c.if-words-gt8192.false
+      ran = reads m words _ _ _ _ _ _ c.if-words-gt-JOURNAL_WORDS.false
           (ends_wrong m words _ _ _ _ _ place _ inv.0 stop.off _ h stop.read stop.here);
       near = omega (
         arith,
         stop.here,
         stop_near (drop place words) stop.off stop.read,
         length-drop place words,
-        c.if-words-gt8192.false,
+        c.if-words-gt-JOURNAL_WORDS.false,
       );
       zone = inv.1;
     })
@@ -36,10 +36,10 @@ returns-then-answers-written g c =
     let h : place < length words = omega (arith, leb-false _ _ (sym c.calls-test.ensures), ap length inv.2) in
     let used = rw inv.2 at c.in-Ok.ensures.read in
     rw c.stopped-then-answers-written.ensures (record {
-      ran = reads m words _ _ _ _ _ _ c.if-words-gt8192.false
+      ran = reads m words _ _ _ _ _ _ c.if-words-gt-JOURNAL_WORDS.false
           (ends_full m words _ _ _ _ _ place _ inv.0 (c.in-Ok.call, used.used) h used.read
           (omega (arith, c.answer_len.ensures m, c.calls.auto.answers)));
-      near = omega (arith, c.if-words-gt8192.false);
+      near = omega (arith, c.if-words-gt-JOURNAL_WORDS.false);
       zone = inv.1;
     })
 
@@ -72,7 +72,7 @@ returns g c =
     let h : length c.args.words.now ≤ c.calls.reader.place =
     omega (arith, leb-true _ _ (sym c.calls-test.ensures), ap length inv.2) in
     record {
-      ran = reads m c.args.words.now _ _ _ _ _ _ c.if-words-gt8192.false
+      ran = reads m c.args.words.now _ _ _ _ _ _ c.if-words-gt-JOURNAL_WORDS.false
           (ends_whole m c.args.words.now _ _ _ _ _ _ _ inv.0 h);
       near = tt;
       zone = inv.1;

@@ -1,5 +1,5 @@
 use Rattle.std.proofs.Common.{◌≡◌, ◌-◌, length}
-use Rattle.ledger.specs.View.{view}
+use Rattle.tables.specs.View.{view}
 use Rattle.journal.proofs.Loops.{Going}
 use Rattle.journal.proofs.running.run.Given as goal
 

@@ -3,13 +3,14 @@ use Rattle.std.proofs.Common.{◌≡◌, ◌+◌, ◌-◌, ◌≤◌, Some, None
 use Rattle.std.proofs.lemmas.Result.{err_from_is_err_and}
 use Rattle.prices.specs.MeansLemmas.{rounded_le, mean_first, mean_between}
 use Rattle.prices.proofs.Passes.{passed_more, passed_lack, passed_all}
+use Rattle.prices.specs.Limits.{price_limit}
 use Rattle.prices.proofs.days.total.Goals as goal
 
 pub loop-day-preserved : goal.loop-day-preserved
 loop-day-preserved g c =
     let price = g.D.DayPrices.posted c.args.prices.now in
     let e : Some c.from-sum.result ≡ price c.loop-day.day = grind arith in
-    let f : c.from-sum.result ≤ 10000000 = rw (← e) at (g.met.D.DayPrices.fair c.args.prices.now c.loop-day.day) in
+    let f : c.from-sum.result ≤ price_limit = rw (← e) at (g.met.D.DayPrices.fair c.args.prices.now c.loop-day.day) in
     let day = c.loop-day.day in
     (omega arith, passed_more _ _ _ c.loop-day.sum day c.from-sum.result (omega arith) e c.loop-day.invariant.1)
 
@@ -34,11 +35,11 @@ returns-in_ok-price g c =
     let n = c.args.span.to + 1 - c.args.span.from in
     let sum = c.loop-day.sum + c.from-sum.result in
     let e : Some c.from-sum.result ≡ price c.loop-day.day = grind arith in
-    let f : c.from-sum.result ≤ 10000000 = rw (← e) at (g.met.D.DayPrices.fair c.args.prices.now c.loop-day.day) in
+    let f : c.from-sum.result ≤ price_limit = rw (← e) at (g.met.D.DayPrices.fair c.args.prices.now c.loop-day.day) in
     record {
       total = record {
         small = omega arith;
-        fair = rounded_le sum n 10000000 (omega arith) (omega arith);
+        fair = rounded_le sum n price_limit (omega arith) (omega arith);
         mean = passed_all price _ _ sum (c.loop-day.day + 1) (omega arith)
             (passed_more _ _ _ c.loop-day.sum c.loop-day.day c.from-sum.result (omega arith) e c.loop-day.invariant.1);
       };

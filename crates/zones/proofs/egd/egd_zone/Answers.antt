@@ -1,6 +1,6 @@
 use Rattle.std.proofs.Common.{ap, ◌∙◌}
 use Rattle.balancing.specs.Rules.{egd_band}
-use Rattle.ledger.specs.Calls.{Meaning}
+use Rattle.book.specs.Meanings.{Meaning, meaning_of}
 use Rattle.prices.specs.Quotes.{Quote}
 use Rattle.zones.specs.Sources.{overrun_quote, shortage_quote, excess_quote}
 use Rattle.zones.proofs.egd.egd_zone.Goals as goal
@@ -8,7 +8,7 @@ use Rattle.zones.proofs.egd.egd_zone.Goals as goal
 pub returns-clause-means : goal.returns-clause-means
 returns-clause-means c =
     let m : Quote → Quote → Quote → Meaning
-    = λ o s e. record { band = egd_band; overrun = o; shortage = s; excess = e } in
+    = meaning_of egd_band in
     let highs = c.in_ok-to_vec.ensures.items_if_clones_equal (λ x y h. h) in
     let low = c.in_ok-to_vec-2.ensures.items_if_clones_equal (λ x y h. h) in
     let high = c.in_ok-to_vec-3.ensures.items_if_clones_equal (λ x y h. h) in

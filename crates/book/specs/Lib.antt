@@ -1,0 +1,13 @@
+pub mod Accounts
+pub mod Allowances
+pub mod Day
+pub mod Gas
+pub mod Limits
+pub mod Meanings
+pub mod Open
+pub mod Post
+pub mod Prices
+pub mod Rulings
+pub mod State
+pub mod Statement
+pub mod Step
