@@ -51,7 +51,7 @@ enough (x ∷ f) (y ∷ g) (w ∷ ws) h k =
     (λ used l. let d = length-drop used (w ∷ ws) in enough f g (drop used (w ∷ ws)) (omega arith) (omega arith))
     (read_call (w ∷ ws)) (front (w ∷ ws))
 
-calls_step : (ws : List ℕ) (c : Call) (used : ℕ) → read_call ws ≡ Ok (c, used) → 1 ≤ used
+pub calls_step : (ws : List ℕ) (c : Call) (used : ℕ) → read_call ws ≡ Ok (c, used) → 1 ≤ used
     → read_calls ws ≡ add c used (read_calls (drop used ws))
 calls_step [] c used e h = let z : ◌≡◌ {A = ℕ} 0 1 = cc in absurd (omega arith)
 calls_step (w ∷ ws) c used e h =
@@ -59,7 +59,7 @@ calls_step (w ∷ ws) c used e h =
     ap (λ r. next r (λ u. read_by ws (drop u (w ∷ ws)))) e
     ∙ ap (add c used) (enough ws (drop used (w ∷ ws)) (drop used (w ∷ ws)) (omega arith) (omega arith))
 
-calls_stop : (ws : List ℕ) (at : ℕ) → 0 < length ws → read_call ws ≡ Err at → read_calls ws ≡ halted [] at
+pub calls_stop : (ws : List ℕ) (at : ℕ) → 0 < length ws → read_call ws ≡ Err at → read_calls ws ≡ halted [] at
 calls_stop [] at h e = absurd (omega arith)
 calls_stop (w ∷ ws) at h e = ap (λ r. next r (λ u. read_by ws (drop u (w ∷ ws)))) e
 
