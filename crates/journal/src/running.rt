@@ -2,6 +2,7 @@
 ghost use Rattle.std.specs.Prelude.{◌≡◌, ◌≤◌, length, IfSome};
 ghost use Rattle.ledger.specs.View.{view};
 ghost use Rattle.journal.specs.Runs.{run, Runs, stopped_at};
+ghost use Rattle.journal.specs.Trips.{Told};
 
 use crate::memory::{answer_len, put};
 use crate::ran::Ran;
@@ -17,6 +18,9 @@ pub fn run<Z: RateZone>(ledger: &mut Ledger<Z>, words: &[u32], answers: &mut [u3
     ensures ran { Runs
         (run (Z.means ledger.old.zone) words.now (length answers.old) (view ledger.old.tables))
         result answers.old answers.new (view ledger.new.tables) }
+    ensures told { Told
+        (Z.means ledger.old.zone) words.now (length answers.old) (view ledger.old.tables)
+        result answers.new (view ledger.new.tables) }
     ensures near { IfSome result.stop (λ s. s.place ≤ 8192) }
     ensures zone { ledger.new.zone ≡ ledger.old.zone }
 {

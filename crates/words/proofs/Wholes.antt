@@ -1,11 +1,11 @@
 -- Reading on to the end: what was read so far, and what is read of the words that are left.
-use Rattle.std.proofs.Common.{◌≡◌, ℕ, ◌+◌, ◌<◌, ◌≤◌, List, [], ◌∷◌, ◌++◌, length, get_or}
+use Rattle.std.proofs.Common.{◌≡◌, ℕ, ◌+◌, ◌<◌, ◌≤◌, List, [], ◌∷◌, ◌++◌, length}
 use Rattle.std.proofs.Common.{drop, IfOk, Ok, Err, Result, sym, refl, ap, ◌∙◌, arith}
-use Rattle.std.proofs.lemmas.List.{append_assoc, append-nil, drop_all, drop_more}
-use Rattle.std.proofs.lemmas.List.{drop-drop, length-append, length-drop, at_drop_more, at_drop_all}
+use Rattle.std.proofs.lemmas.List.{append_assoc, append-nil, drop_all}
+use Rattle.std.proofs.lemmas.List.{drop-drop, length-append, length-drop}
 use Rattle.calls.specs.declared.call.Call.{Call}
 use Rattle.words.specs.Ends.{read_of}
-use Rattle.words.specs.Journal.{Reading, whole, halted, add, next, ended, read_by, read_calls}
+use Rattle.words.specs.Journal.{Reading, whole, halted, add, next, read_by, read_calls}
 use Rattle.words.specs.Reading.{read_call, Used, Stopped}
 use Rattle.words.proofs.Codec.{Front, front}
 

@@ -4,6 +4,7 @@ use Rattle.std.proofs.lemmas.Bool.{leb-false, leb-true}
 use Rattle.answers.specs.Writing.{answer_words}
 use Rattle.journal.proofs.Near.{stop_near}
 use Rattle.journal.proofs.Loops.{step_on, ends_whole, ends_wrong, ends_full, reads}
+use Rattle.journal.proofs.Trips.{told}
 use Rattle.journal.proofs.running.run.Goals as goal
 
 pub returns-in-Err : goal.returns-in-Err
@@ -14,9 +15,10 @@ returns-in-Err g c =
     let place = c.calls.reader.place in
     let h : place < length words = omega (arith, leb-false _ _ (sym c.calls-test.ensures), ap length inv.2) in
     let stop = rw inv.2 at c.in-Err.ensures.read.0 in
+    let ends = ends_wrong m words _ _ _ _ _ place _ inv.0 stop.off _ h stop.read stop.here in
     rw c.stopped-in-Err.ensures (record {
-      ran = reads m words _ _ _ _ _ _ c.if-words-gt8192.false
-          (ends_wrong m words _ _ _ _ _ place _ inv.0 stop.off _ h stop.read stop.here);
+      ran = reads m words _ _ _ _ _ _ c.if-words-gt8192.false ends;
+      told = told m words _ _ _ _ _ _ c.if-words-gt8192.false ends;
       near = omega (
         arith,
         stop.here,
@@ -35,10 +37,11 @@ returns-then-answers-written g c =
     let place = c.calls.reader.place in
     let h : place < length words = omega (arith, leb-false _ _ (sym c.calls-test.ensures), ap length inv.2) in
     let used = rw inv.2 at c.in-Ok.ensures.read in
+    let ends = ends_full m words _ _ _ _ _ place _ inv.0 (c.in-Ok.call, used.used) h used.read
+    (omega (arith, c.answer_len.ensures m, c.calls.auto.answers)) in
     rw c.stopped-then-answers-written.ensures (record {
-      ran = reads m words _ _ _ _ _ _ c.if-words-gt8192.false
-          (ends_full m words _ _ _ _ _ place _ inv.0 (c.in-Ok.call, used.used) h used.read
-          (omega (arith, c.answer_len.ensures m, c.calls.auto.answers)));
+      ran = reads m words _ _ _ _ _ _ c.if-words-gt8192.false ends;
+      told = told m words _ _ _ _ _ _ c.if-words-gt8192.false ends;
       near = omega (arith, c.if-words-gt8192.false);
       zone = inv.1;
     })
@@ -71,9 +74,10 @@ returns g c =
     let inv = c.calls.invariant in
     let h : length c.args.words.now ≤ c.calls.reader.place =
     omega (arith, leb-true _ _ (sym c.calls-test.ensures), ap length inv.2) in
+    let ends = ends_whole m c.args.words.now _ _ _ _ _ _ _ inv.0 h in
     record {
-      ran = reads m c.args.words.now _ _ _ _ _ _ c.if-words-gt8192.false
-          (ends_whole m c.args.words.now _ _ _ _ _ _ _ inv.0 h);
+      ran = reads m c.args.words.now _ _ _ _ _ _ c.if-words-gt8192.false ends;
+      told = told m c.args.words.now _ _ _ _ _ _ c.if-words-gt8192.false ends;
       near = tt;
       zone = inv.1;
     }
