@@ -4,10 +4,10 @@ ghost use Rattle.ledger.specs.View.{view};
 ghost use Rattle.journal.specs.Runs.{run, Runs, stopped_at};
 ghost use Rattle.journal.specs.Trips.{Told};
 
+use crate::making::make;
 use crate::memory::{answer_len, put};
 use crate::ran::Ran;
 use crate::stop::Stop;
-use answers::encode;
 use calls::Refusal;
 use ledger::{Ledger, RateZone};
 use words::Reader;
@@ -39,7 +39,7 @@ pub fn run<Z: RateZone>(ledger: &mut Ledger<Z>, words: &[u32], answers: &mut [u3
         if answers.len() - written < answer_len(&ledger.tables, &call) {
             return stopped(written, Refusal::NoRoom, place);
         }
-        let answer = encode(&ledger.apply(call));
+        let answer = make(ledger, call);
         put(answers, written, &answer);
         written += answer.len();
     }
