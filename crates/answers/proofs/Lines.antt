@@ -16,4 +16,5 @@ line_more ws front xs i h so_far a b e =
     ∙ ap (λ s. s ++ a ∷ b ∷ []) so_far
     ∙ append_assoc front (lines_words (take i xs)) (a ∷ b ∷ [])
     ∙ ap (λ s. front ++ (lines_words (take i xs) ++ s)) e
-    ∙ ap (λ s. front ++ s) (sym (ap lines_words (take_more xs i (pos 0) h) ∙ lines_push (take i xs) (get_or xs i (pos 0))))
+    ∙ ap (λ s. front ++ s)
+    (sym (ap lines_words (take_more xs i (pos 0) h) ∙ lines_push (take i xs) (get_or xs i (pos 0))))

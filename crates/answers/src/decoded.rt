@@ -73,7 +73,7 @@ fn stated_in(words: &[u32]) -> StatedTerm
 fn lines_in(words: &[u32]) -> [i64; 5]
     ensures { result ≡ lines_in 5 8 words.now }
 {
-    // Kept: tried; the proof did not close: of `array::from_fn` each result is known by its index, of the rule by its place.
+    // Kept: tried; it did not close: of `array::from_fn` a result is known by its index, of the rule by its place.
     [
         line_of(figure(words, 8), figure(words, 9)),
         line_of(figure(words, 10), figure(words, 11)),

@@ -3,3 +3,4 @@ pub mod Lengths
 pub mod Loops
 pub mod Near
 pub mod Steps
+pub mod Trips

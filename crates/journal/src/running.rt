@@ -3,11 +3,12 @@ ghost use Rattle.std.specs.Prelude.{◌≡◌, ◌≤◌, length, IfSome};
 ghost use Rattle.tables.specs.View.{view};
 ghost use Rattle.words.specs.Limits.{journal_words};
 ghost use Rattle.journal.specs.Runs.{run, Runs, stopped_at};
+ghost use Rattle.journal.specs.Trips.{Told};
 
+use crate::making::make;
 use crate::memory::{answer_len, put};
 use crate::ran::Ran;
 use crate::stop::Stop;
-use answers::encode;
 use calls::Refusal;
 use ledger::Ledger;
 use words::{JOURNAL_WORDS, Reader};
@@ -19,6 +20,9 @@ pub fn run<Z: RateZone>(ledger: &mut Ledger<Z>, words: &[u32], answers: &mut [u3
     ensures ran { Runs
         (run (Z.means ledger.old.zone) words.now (length answers.old) (view ledger.old.tables))
         result answers.old answers.new (view ledger.new.tables) }
+    ensures told { Told
+        (Z.means ledger.old.zone) words.now (length answers.old) (view ledger.old.tables)
+        result answers.new (view ledger.new.tables) }
     ensures near { IfSome result.stop (λ s. s.place ≤ journal_words) }
     ensures zone { ledger.new.zone ≡ ledger.old.zone }
 {
@@ -37,7 +41,7 @@ pub fn run<Z: RateZone>(ledger: &mut Ledger<Z>, words: &[u32], answers: &mut [u3
         if answers.len() - written < answer_len(ledger, &call) {
             return stopped(written, Refusal::NoRoom, place);
         }
-        let answer = encode(&ledger.apply(call));
+        let answer = make(ledger, call);
         put(answers, written, &answer);
         written += answer.len();
     }

@@ -33,10 +33,16 @@ fn overrun_is_charged_at_the_price_of_its_day(rt: HostRuntime) -> Result<(), Fai
     let mut ledger = opened(heap)?;
     let answer = last_answer(heap, &mut ledger, &[posting(900, 0)])?;
     assert_eq!(rt; answer, Answer::Done(1));
-    assert_eq!(rt; statement(heap, &mut ledger, 1)?.lines, [15_000_000, 0, 0, 0, 0]);
+    assert_eq!(rt;
+        statement(heap, &mut ledger, 1)?.lines,
+        [15_000_000, 0, 0, 0, 0]
+    );
     let answer = last_answer(heap, &mut ledger, &[posting(1_000, 0), posting(999, 0)])?;
     assert_eq!(rt; answer, Answer::Done(3));
-    assert_eq!(rt; statement(heap, &mut ledger, 1)?.lines, [15_300_000, 0, 0, 0, 0]);
+    assert_eq!(rt;
+        statement(heap, &mut ledger, 1)?.lines,
+        [15_300_000, 0, 0, 0, 0]
+    );
     Ok(())
 }
 
@@ -57,8 +63,14 @@ fn a_lacking_price_is_told_with_its_day_11(rt: HostRuntime) -> Result<(), Fail> 
 fn an_egd_ledger_is_made_in_its_ranges_alone(rt: HostRuntime) -> Result<(), Fail> {
     let heap = rt.alloc();
     let long = vec![in heap; 1; 3654]?;
-    let makes = [(0, 1, 1, false), (1, 3653, 120, true), (3653, 0, 0, true), (3654, 0, 0, false),
-        (1, 3654, 0, false), (1, 0, 121, false)];
+    let makes = [
+        (0, 1, 1, false),
+        (1, 3653, 120, true),
+        (3653, 0, 0, true),
+        (3654, 0, 0, false),
+        (1, 3654, 0, false),
+        (1, 0, 121, false),
+    ];
     for (start, highs, index, made) in makes {
         let highs = long.get(..highs).unwrap_or(&[]);
         let index = long.get(..index).unwrap_or(&[]);

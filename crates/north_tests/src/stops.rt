@@ -60,7 +60,13 @@ fn what_stops_a_run_1_5_19(rt: HostRuntime) -> Result<(), Fail> {
     long.push(DAY)?;
     let rows = [
         (long.as_slice(), 16_384, Refusal::OutOfRange, 0, 0),
-        ([DAY, 0x1000_0003, 0x2000_0001].as_slice(), 2, Refusal::BadWord, 3, 2),
+        (
+            [DAY, 0x1000_0003, 0x2000_0001].as_slice(),
+            2,
+            Refusal::BadWord,
+            3,
+            2,
+        ),
         ([DAY, DAY].as_slice(), 3, Refusal::NoRoom, 1, 2),
     ];
     for (words, room, refusal, place, written) in rows {

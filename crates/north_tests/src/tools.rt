@@ -69,7 +69,11 @@ pub fn last_answer<Z: RateZone>(
 }
 
 // The statement of a term.
-pub fn statement<Z: RateZone>(heap: Global, ledger: &mut Ledger<Z>, term: u32) -> Result<Stated, Fail> {
+pub fn statement<Z: RateZone>(
+    heap: Global,
+    ledger: &mut Ledger<Z>,
+    term: u32,
+) -> Result<Stated, Fail> {
     match last_answer(heap, ledger, &[Call::Statement { term }])? {
         Answer::Stated(stated) => Ok(stated),
         _ => Err(Fail::new("no statement")),
@@ -77,7 +81,11 @@ pub fn statement<Z: RateZone>(heap: Global, ledger: &mut Ledger<Z>, term: u32) -
 }
 
 // Turns so many days, and answers what the last of these calls answered.
-pub fn turn<Z: RateZone>(heap: Global, ledger: &mut Ledger<Z>, days: usize) -> Result<Answer, Fail> {
+pub fn turn<Z: RateZone>(
+    heap: Global,
+    ledger: &mut Ledger<Z>,
+    days: usize,
+) -> Result<Answer, Fail> {
     let calls = vec![in heap; Call::Day; days]?;
     last_answer(heap, ledger, &calls)
 }

@@ -4,7 +4,7 @@
 use north::run_words;
 use octets::words_in;
 use std::io::Read;
-use viewing::{Report, read_report};
+use report::{Report, read_report};
 
 // The report of an input's run.
 fn report_of(rt: &HostRuntime, input: &[u8]) -> anyhow::Result<Report> {

@@ -50,7 +50,8 @@ module _ (ks : List Kind) (ws vs : List ℕ) (start i : ℕ) (long : length vs �
     (so_far : onto vs (read_figures (drop i ks) (drop (start + i) ws)) ≡ read_figures ks (drop start ws)) where
   pub figure_more : i < length ks → (v : ℕ)
       → read_figures (get_or ks i kind.Call ∷ []) (drop (start + i) ws) ≡ Ok (v ∷ [])
-      → onto (vs ++ v ∷ []) (read_figures (drop (i + 1) ks) (drop (start + (i + 1)) ws)) ≡ read_figures ks (drop start ws)
+      → onto (vs ++ v ∷ []) (read_figures (drop (i + 1) ks) (drop (start + (i + 1)) ws))
+      ≡ read_figures ks (drop start ws)
   figure_more h v e =
       let n : start + (i + 1) ≡ start + i + 1 = omega arith in
       onto_push vs v (read_figures (drop (i + 1) ks) (drop (start + (i + 1)) ws))

@@ -1,11 +1,11 @@
 -- Reading on to the end: what was read so far, and what is read of the words that are left.
-use Rattle.std.proofs.Common.{◌≡◌, ℕ, ◌+◌, ◌<◌, ◌≤◌, List, [], ◌∷◌, ◌++◌, length, get_or}
+use Rattle.std.proofs.Common.{◌≡◌, ℕ, ◌+◌, ◌<◌, ◌≤◌, List, [], ◌∷◌, ◌++◌, length}
 use Rattle.std.proofs.Common.{drop, IfOk, Ok, Err, Result, sym, refl, ap, ◌∙◌, arith}
-use Rattle.std.proofs.lemmas.List.{append_assoc, append-nil, drop_all, drop_more}
-use Rattle.std.proofs.lemmas.List.{drop-drop, length-append, length-drop, at_drop_more, at_drop_all}
+use Rattle.std.proofs.lemmas.List.{append_assoc, append-nil, drop_all}
+use Rattle.std.proofs.lemmas.List.{drop-drop, length-append, length-drop}
 use Rattle.calls.specs.declared.call.Call.{Call}
 use Rattle.words.specs.Ends.{read_of}
-use Rattle.words.specs.Journal.{Reading, whole, halted, add, next, ended, read_by, read_calls}
+use Rattle.words.specs.Journal.{Reading, whole, halted, add, next, read_by, read_calls}
 use Rattle.words.specs.Reading.{read_call, Used, Stopped}
 use Rattle.words.proofs.Codec.{Front, front}
 
@@ -51,7 +51,7 @@ enough (x ∷ f) (y ∷ g) (w ∷ ws) h k =
     (λ used l. let d = length-drop used (w ∷ ws) in enough f g (drop used (w ∷ ws)) (omega arith) (omega arith))
     (read_call (w ∷ ws)) (front (w ∷ ws))
 
-calls_step : (ws : List ℕ) (c : Call) (used : ℕ) → read_call ws ≡ Ok (c, used) → 1 ≤ used
+pub calls_step : (ws : List ℕ) (c : Call) (used : ℕ) → read_call ws ≡ Ok (c, used) → 1 ≤ used
     → read_calls ws ≡ add c used (read_calls (drop used ws))
 calls_step [] c used e h = let z : ◌≡◌ {A = ℕ} 0 1 = cc in absurd (omega arith)
 calls_step (w ∷ ws) c used e h =
@@ -59,7 +59,7 @@ calls_step (w ∷ ws) c used e h =
     ap (λ r. next r (λ u. read_by ws (drop u (w ∷ ws)))) e
     ∙ ap (add c used) (enough ws (drop used (w ∷ ws)) (drop used (w ∷ ws)) (omega arith) (omega arith))
 
-calls_stop : (ws : List ℕ) (at : ℕ) → 0 < length ws → read_call ws ≡ Err at → read_calls ws ≡ halted [] at
+pub calls_stop : (ws : List ℕ) (at : ℕ) → 0 < length ws → read_call ws ≡ Err at → read_calls ws ≡ halted [] at
 calls_stop [] at h e = absurd (omega arith)
 calls_stop (w ∷ ws) at h e = ap (λ r. next r (λ u. read_by ws (drop u (w ∷ ws)))) e
 

@@ -29,7 +29,11 @@ call_of n vs =
       first = slice_index vs 3;
       last = slice_index vs 4;
     }))
-    (cond (n == 3) (Post (record { term = slice_index vs 0; delivered = slice_index vs 1; consumed = slice_index vs 2 }))
+    (cond (n == 3) (Post (record {
+      term = slice_index vs 0;
+      delivered = slice_index vs 1;
+      consumed = slice_index vs 2;
+    }))
     (cond (n == 10) (Statement (slice_index vs 0)) Day))
 
 -- The call at the front of the words, with how many words it has; or how far in the word stands that is wrong,

@@ -5,8 +5,8 @@ ghost use Rattle.words.specs.Shapes.{shape_of};
 use crate::kind::Kind;
 
 // The kinds of the arguments of the call with this number, if there is such a call.
-// Kept: the new form is no plainer: a call word bears the number, and an enum between would be one more row for each call.
-// Kept: the new form is no plainer: that a shape has at most 8 kinds is said here, and asked by the two that write them.
+// Kept: the new form is no plainer: a call word bears the number, and an enum between would be one row more for a call.
+// Kept: the new form is no plainer: that a shape has at most 8 kinds is said here, and asked by the two that write it.
 pub fn shape(number: u32) -> Option<&'static [Kind]>
     ensures row { MatchOption result (shape_of number ≡ None) (λ kinds. shape_of number ≡ Some kinds.now) }
     ensures short { IfSome result (λ kinds. length kinds.now ≤ 8) }

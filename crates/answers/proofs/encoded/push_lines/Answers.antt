@@ -9,7 +9,7 @@ loop-line-preserved c =
     let e : c.line_words-whole.result.0 ∷ c.line_words-whole.result.1 ∷ []
     ≡ line_words (get_or c.args.lines.now c.loop-line.line-index (pos 0)) = grind (arith, to_z-of_z) in (
       c.push-in-loop-line.ensures.items ∙ ap (λ s. s ++ c.line_words-whole.result.1 ∷ []) c.push.ensures.items
-          ∙ line_more c.loop-line.words.items c.args.words.now.items c.args.lines.now c.loop-line.line-index (omega arith)
-          c.loop-line.invariant.0 _ _ e,
+          ∙ line_more c.loop-line.words.items c.args.words.now.items c.args.lines.now c.loop-line.line-index
+          (omega arith) c.loop-line.invariant.0 _ _ e,
       omega (arith, c.loop-line.invariant.1, c.push.ensures.len, c.push-in-loop-line.ensures.len),
     )

@@ -1,9 +1,9 @@
-use Rattle.std.proofs.Common.{◌≡◌, ◌-◌, ◌<◌, ◌≤◌, length, drop, sym, ap, ◌∙◌, arith}
+use Rattle.std.proofs.Common.{◌≡◌, ◌-◌, ◌<◌, ◌≤◌, length, drop, sym, refl, ap, ◌∙◌, arith}
 use Rattle.std.proofs.lemmas.List.{length-drop}
 use Rattle.std.proofs.lemmas.Bool.{leb-false, leb-true}
-use Rattle.answers.specs.Writing.{answer_words}
 use Rattle.journal.proofs.Near.{stop_near}
 use Rattle.journal.proofs.Loops.{step_on, ends_whole, ends_wrong, ends_full, reads}
+use Rattle.journal.proofs.Trips.{told}
 use Rattle.journal.proofs.running.run.Goals as goal
 
 pub returns-in-Err : goal.returns-in-Err
@@ -14,9 +14,10 @@ returns-in-Err g c =
     let place = c.calls.reader.place in
     let h : place < length words = omega (arith, leb-false _ _ (sym c.calls-test.ensures), ap length inv.2) in
     let stop = rw inv.2 at c.in-Err.ensures.read.0 in
+    let ends = ends_wrong m words _ _ _ _ _ place _ inv.0 stop.off _ h stop.read stop.here in
     rw c.stopped-in-Err.ensures (record {
-      ran = reads m words _ _ _ _ _ _ c.if-words-gt-JOURNAL_WORDS.false
-          (ends_wrong m words _ _ _ _ _ place _ inv.0 stop.off _ h stop.read stop.here);
+      ran = reads m words _ _ _ _ _ _ c.if-words-gt-JOURNAL_WORDS.false ends;
+      told = told m words _ _ _ _ _ _ c.if-words-gt-JOURNAL_WORDS.false ends;
       near = omega (
         arith,
         stop.here,
@@ -35,10 +36,11 @@ returns-then-answers-written g c =
     let place = c.calls.reader.place in
     let h : place < length words = omega (arith, leb-false _ _ (sym c.calls-test.ensures), ap length inv.2) in
     let used = rw inv.2 at c.in-Ok.ensures.read in
+    let ends = ends_full m words _ _ _ _ _ place _ inv.0 (c.in-Ok.call, used.used) h used.read
+    (omega (arith, c.answer_len.ensures m, c.calls.auto.answers)) in
     rw c.stopped-then-answers-written.ensures (record {
-      ran = reads m words _ _ _ _ _ _ c.if-words-gt-JOURNAL_WORDS.false
-          (ends_full m words _ _ _ _ _ place _ inv.0 (c.in-Ok.call, used.used) h used.read
-          (omega (arith, c.answer_len.ensures m, c.calls.auto.answers)));
+      ran = reads m words _ _ _ _ _ _ c.if-words-gt-JOURNAL_WORDS.false ends;
+      told = told m words _ _ _ _ _ _ c.if-words-gt-JOURNAL_WORDS.false ends;
       near = omega (arith, c.if-words-gt-JOURNAL_WORDS.false);
       zone = inv.1;
     })
@@ -51,17 +53,15 @@ calls-preserved g c =
     let place = c.calls.reader.place in
     let h : place < length words = omega (arith, leb-false _ _ (sym c.calls-test.ensures), ap length inv.2) in
     let used = rw inv.2 at c.in-Ok.ensures.read in
-    let met = rw inv.1 at c.apply.ensures.call in
-    let encoded = c.encode-answer.result.items in
-    let n : length encoded ≡ c.answer_len.result =
-    ap length c.encode-answer.ensures.words ∙ ap (λ x. length (answer_words x)) met.answers
-    ∙ sym (c.answer_len.ensures m) in
+    let words_of = rw inv.1 at c.make-answer.ensures.words in
+    let encoded = c.make-answer.result.items in
+    let n : length encoded ≡ c.answer_len.result = ap length words_of ∙ sym (c.answer_len.ensures m) in
     let fits : length encoded ≤ length c.args.answers.now - c.calls.written =
     omega (arith, n, c.if-answers-written.false, c.calls.auto.answers) in (
-      rw c.len-written.ensures.value (step_on m words _ _ _ _ _ place _ inv.0 c.in-Ok.call _ _ _ encoded _ h used met
-          c.encode-answer.ensures.words fits (rw c.deref.ensures.0 at c.put.ensures)
+      rw c.len-written.ensures.value (step_on m words _ _ _ _ _ place _ inv.0 c.in-Ok.call _ _ _ encoded _ h used
+          (record { answers = refl; leaves = rw inv.1 at c.make-answer.ensures.tables }) words_of fits (rw c.deref.ensures.0 at c.put.ensures)
           (omega (arith, fits, c.calls.auto.answers, c.put.auto.answers, inv.0.inside))),
-      c.apply.ensures.zone ∙ inv.1,
+      c.make-answer.ensures.zone ∙ inv.1,
       c.call.ensures.same ∙ inv.2,
     )
 
@@ -71,9 +71,10 @@ returns g c =
     let inv = c.calls.invariant in
     let h : length c.args.words.now ≤ c.calls.reader.place =
     omega (arith, leb-true _ _ (sym c.calls-test.ensures), ap length inv.2) in
+    let ends = ends_whole m c.args.words.now _ _ _ _ _ _ _ inv.0 h in
     record {
-      ran = reads m c.args.words.now _ _ _ _ _ _ c.if-words-gt-JOURNAL_WORDS.false
-          (ends_whole m c.args.words.now _ _ _ _ _ _ _ inv.0 h);
+      ran = reads m c.args.words.now _ _ _ _ _ _ c.if-words-gt-JOURNAL_WORDS.false ends;
+      told = told m c.args.words.now _ _ _ _ _ _ c.if-words-gt-JOURNAL_WORDS.false ends;
       near = tt;
       zone = inv.1;
     }

@@ -6,7 +6,7 @@ use Rattle.calls.specs.declared.call.Call.{Call}
 use Rattle.calls.specs.declared.call.Call.TheVariants.{Day, Open, Post, Statement}
 use Rattle.answers.specs.Answers.{read_answer}
 use Rattle.words.specs.Reading.{read_call}
-use Rattle.viewing.specs.declared.entry.Entry.{Entry}
+use Rattle.report.specs.declared.entry.Entry.{Entry}
 
 -- A done call day answers the new day; any other call leaves the day.
 abbrev pub day_after : ℕ → Call → Answer → ℕ

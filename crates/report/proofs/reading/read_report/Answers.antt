@@ -1,8 +1,8 @@
 use Rattle.std.proofs.Common.{◌∙◌, subst}
 use Rattle.answers.specs.Answers.{Replied}
 use Rattle.words.specs.Reading.{Used}
-use Rattle.viewing.proofs.Entries.{begins, goes_on}
-use Rattle.viewing.proofs.reading.read_report.Goals as goal
+use Rattle.report.proofs.Entries.{begins, goes_on}
+use Rattle.report.proofs.reading.read_report.Goals as goal
 
 pub calls-init : goal.calls-init
 calls-init c = (

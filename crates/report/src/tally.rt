@@ -1,6 +1,6 @@
 // Counting the refused calls of a run.
 ghost use Rattle.std.specs.Prelude.{◌≡◌};
-ghost use Rattle.viewing.specs.Tally.{refusals};
+ghost use Rattle.report.specs.Tally.{refusals};
 
 use crate::entry::Entry;
 use calls::Answer;

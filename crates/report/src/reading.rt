@@ -1,6 +1,6 @@
 // The entries of a run, read off the words that it read and the words that it wrote.
 ghost use Rattle.std.specs.Prelude.{◌≡◌, IfOk};
-ghost use Rattle.viewing.specs.Shown.{day_after, Shown};
+ghost use Rattle.report.specs.Shown.{day_after, Shown};
 
 use crate::entry::Entry;
 use answers::answer;

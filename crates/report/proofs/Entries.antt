@@ -4,8 +4,8 @@ use Rattle.calls.specs.declared.call.Answer.{Answer}
 use Rattle.calls.specs.declared.call.Call.{Call}
 use Rattle.answers.specs.Answers.{Replied}
 use Rattle.words.specs.Reading.{Used}
-use Rattle.viewing.specs.Shown.{Seen, start, more, day_after}
-use Rattle.viewing.specs.declared.entry.Entry.{Entry}
+use Rattle.report.specs.Shown.{Seen, start, more, day_after}
+use Rattle.report.specs.declared.entry.Entry.{Entry}
 
 pub begins : (journal answers : List ℕ) (es : List Entry) (asked replied : ℕ) → es ≡ [] → asked ≡ 0 → replied ≡ 0
     → Seen journal answers es 1 asked replied

@@ -1,6 +1,6 @@
 use Rattle.std.proofs.Common.{◌≡◌, ◌-◌, length, vec_items}
-use Rattle.viewing.specs.Shown.{Seen}
-use Rattle.viewing.proofs.reading.read_report.Given as goal
+use Rattle.report.specs.Shown.{Seen}
+use Rattle.report.proofs.reading.read_report.Given as goal
 
 abbrev pub invariant-calls : goal.invariant-calls
 invariant-calls l =

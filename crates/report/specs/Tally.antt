@@ -2,7 +2,7 @@
 use Rattle.std.specs.Prelude.{ℕ, Bool, true, false, List, count_by}
 use Rattle.calls.specs.declared.call.Answer.{Answer}
 use Rattle.calls.specs.declared.call.Answer.TheVariants.{Done, Stated, Refused}
-use Rattle.viewing.specs.declared.entry.Entry.{Entry}
+use Rattle.report.specs.declared.entry.Entry.{Entry}
 
 abbrev pub is_refused : Answer → Bool
 is_refused (Done n) = false
