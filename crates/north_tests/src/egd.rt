@@ -1,11 +1,11 @@
 // The EGD ledger: how it is made, and journals that run through it.
 use crate::tools::{last_answer, opening, posting, statement, turn};
-use calls::{Answer, Call, Opening, Refusal};
 use book::Allowances;
+use calls::{Answer, Call, Opening, Refusal};
+use ledger::{EgdLedger, egd_ledger};
 use prices::Lack;
 use std::alloc::Global;
 use std::test::Fail;
-use ledger::{EgdLedger, egd_ledger};
 use zones::NotMade;
 
 const ALLOWED: Allowances = Allowances {

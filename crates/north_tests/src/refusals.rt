@@ -1,9 +1,9 @@
 // Each refusal of the four calls, met in a run, and beside it the call next to it that is done.
 use crate::tools::{last_answer, opening, posting, statement, turn};
 use calls::{Answer, Call, Opening, Posting, Refusal};
+use ledger::{NorthLedger, north_ledger};
 use std::alloc::Global;
 use std::test::Fail;
-use ledger::{NorthLedger, north_ledger};
 
 const FIRST: Answer = Answer::Done(1);
 

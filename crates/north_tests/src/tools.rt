@@ -2,11 +2,11 @@
 use answers::read_answers;
 use calls::{Answer, Call, Opening, Posting, Stated};
 use ledger::Ledger;
-use zones::RateZone;
 use north::run_words;
 use std::alloc::Global;
 use std::test::Fail;
 use words::write_calls;
+use zones::RateZone;
 
 pub const PRICE: u32 = 0x6002_49F0;
 

@@ -6,4 +6,4 @@ use Rattle.zones.specs.declared.not_made.NotMade.TheVariants.{Refused, NoMemory}
 
 abbrev pub not_made_text : NotMade → List ℕ
 not_made_text (Refused r) = refusal_text r
-not_made_text NoMemory = codes "out of memory"
+not_made_text NoMemory = codes "no memory for the ledger"

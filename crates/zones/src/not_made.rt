@@ -41,7 +41,7 @@ impl fmt::Display for NotMade {
     fn fmt<W: fmt::Write>(&self, f: &mut fmt::Formatter<W>) -> fmt::Result {
         match self {
             NotMade::Refused(refusal) => write!(f, "{refusal}"),
-            NotMade::NoMemory => f.write_str("out of memory"),
+            NotMade::NoMemory => f.write_str("no memory for the ledger"),
         }
     }
 }
