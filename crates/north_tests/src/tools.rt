@@ -1,6 +1,6 @@
 // What the tests share: inputs by their words, runs of calls, and what is looked for in an output.
 use answers::read_answers;
-use calls::{Answer, Call, Opening, Posting, Stated};
+use calls::{Answer, Call, Opening, Posting, StatedTerm};
 use ledger::Ledger;
 use north::run_words;
 use std::alloc::Global;
@@ -73,7 +73,7 @@ pub fn statement<Z: RateZone>(
     heap: Global,
     ledger: &mut Ledger<Z>,
     term: u32,
-) -> Result<Stated, Fail> {
+) -> Result<StatedTerm, Fail> {
     match last_answer(heap, ledger, &[Call::Statement { term }])? {
         Answer::Stated(stated) => Ok(stated),
         _ => Err(Fail::new("no statement")),
