@@ -3,8 +3,8 @@
 
 use north::run_words;
 use octets::words_in;
-use std::io::Read;
 use report::{Report, read_report};
+use std::io::Read;
 
 // The report of an input's run.
 fn report_of(rt: &HostRuntime, input: &[u8]) -> anyhow::Result<Report> {
