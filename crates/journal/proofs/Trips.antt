@@ -18,7 +18,7 @@ use Rattle.words.specs.Writing.{call_words}
 use Rattle.words.proofs.Codec.{Front, front}
 use Rattle.words.proofs.Wholes.{calls_step, calls_stop}
 use Rattle.journal.specs.Runs.{Ending, Runs, run_from}
-use Rattle.journal.specs.Trips.{answers_of, state_after, All, UpToWord, UpToRoom, Which, Told}
+use Rattle.journal.specs.Trips.{answers_of, state_after, AllMade, MadeToWord, MadeToRoom, Which, Told}
 use Rattle.journal.specs.declared.ran.Ran.{Ran}
 use Rattle.journal.specs.declared.stop.Stop.{Stop}
 use Rattle.journal.proofs.Steps.{run_wrong, run_full, run_more}
@@ -38,11 +38,11 @@ read_add c used (halted cs at) = refl
 -- one call in front of the calls that the rest of the words comes to
 module _ (m : Meaning) (words rest : List ℕ) (place room : ℕ) (s : State) (c : Call) (used : ℕ)
     (reads : read_calls words ≡ add c used (read_calls rest)) (long : used ≡ length (call_words c)) where
-  more_all : (cs : List Call) (stop : Option Stop) → All rest cs stop → All words (c ∷ cs) stop
+  more_all : (cs : List Call) (stop : Option Stop) → AllMade rest cs stop → AllMade words (c ∷ cs) stop
   more_all cs stop a = record { read = reads ∙ ap (add c used) a.read; stops = a.stops }
 
-  more_word : (cs : List Call) (stop : Option Stop) → UpToWord rest (place + used) cs stop
-      → UpToWord words place (c ∷ cs) stop
+  more_word : (cs : List Call) (stop : Option Stop) → MadeToWord rest (place + used) cs stop
+      → MadeToWord words place (c ∷ cs) stop
   more_word cs stop u = record {
     at = used + u.at;
     read = reads ∙ ap (add c used) u.read;
@@ -50,8 +50,8 @@ module _ (m : Meaning) (words rest : List ℕ) (place room : ℕ) (s : State) (c
   }
 
   more_room : (cs : List Call) (stop : Option Stop)
-      → UpToRoom m rest (place + used) (room - length (answer_words (step m s c).answer)) (step m s c).after cs stop
-      → UpToRoom m words place room s (c ∷ cs) stop
+      → MadeToRoom m rest (place + used) (room - length (answer_words (step m s c).answer)) (step m s c).after cs stop
+      → MadeToRoom m words place room s (c ∷ cs) stop
   more_room cs stop u = record {
     next = u.next;
     rest = u.rest;

@@ -22,20 +22,20 @@ abbrev pub state_after : Meaning → State → List Call → State
 state_after m s [] = s
 state_after m s (c ∷ cs) = state_after m (step m s c).after cs
 
--- All calls that the words are were made.
-pub record All (words : List ℕ) (calls : List Call) (stop : Option Stop) : Type 0 where
+-- The words are calls to their end, and all of these were made.
+pub record AllMade (words : List ℕ) (calls : List Call) (stop : Option Stop) : Type 0 where
   pub read : read_calls words ≡ whole calls
   pub stops : stop ≡ None
 
 -- The calls before a word that cannot be read were made, and the stop is 1 at that word's place.
-pub record UpToWord (words : List ℕ) (place : ℕ) (calls : List Call) (stop : Option Stop) : Type 0 where
+pub record MadeToWord (words : List ℕ) (place : ℕ) (calls : List Call) (stop : Option Stop) : Type 0 where
   pub at : ℕ
   pub read : read_calls words ≡ halted calls at
   pub stops : stop ≡ Some (record { refusal = BadWord; place = place + at })
 
 -- The calls before one whose answer does not fit the room behind theirs were made, and the stop is 19 at its own place.
-pub record UpToRoom (m : Meaning) (words : List ℕ) (place room : ℕ) (s : State) (calls : List Call) (stop : Option Stop)
-    : Type 0 where
+pub record MadeToRoom (m : Meaning) (words : List ℕ) (place room : ℕ) (s : State) (calls : List Call)
+    (stop : Option Stop) : Type 0 where
   pub next : Call
   pub rest : List Call
   pub read : read_of (read_calls words) ≡ calls ++ next ∷ rest
@@ -45,10 +45,10 @@ pub record UpToRoom (m : Meaning) (words : List ℕ) (place room : ℕ) (s : Sta
 -- Words that stand at a place of the journal are run to their end, to a word, or to the end of the room.
 abbrev pub Which : Meaning → List ℕ → ℕ → ℕ → State → List Call → Option Stop → Type 0
 Which m words place room s calls stop =
-    All words calls stop ⊎ (UpToWord words place calls stop ⊎ UpToRoom m words place room s calls stop)
+    AllMade words calls stop ⊎ (MadeToWord words place calls stop ⊎ MadeToRoom m words place room s calls stop)
 
 -- A journal of more than 8,192 words is not read: no call was made, and the stop is 5 at place 0.
-pub record Unread (words : List ℕ) (calls : List Call) (stop : Option Stop) : Type 0 where
+pub record NoneMade (words : List ℕ) (calls : List Call) (stop : Option Stop) : Type 0 where
   pub long : 8192 < length words
   pub none : calls ≡ []
   pub stops : stop ≡ Some (record { refusal = OutOfRange; place = 0 })
@@ -57,7 +57,7 @@ pub record Unread (words : List ℕ) (calls : List Call) (stop : Option Stop) : 
 pub record Told (m : Meaning) (words : List ℕ) (room : ℕ) (s : State) (r : Ran) (memory : List ℕ) (after : State)
     : Type 0 where
   pub calls : List Call
-  pub which : Unread words calls r.stop ⊎ Which m words 0 room s calls r.stop
+  pub which : NoneMade words calls r.stop ⊎ Which m words 0 room s calls r.stop
   pub count : r.written ≡ length (answers_words (answers_of m s calls))
   pub written : take r.written memory ≡ answers_words (answers_of m s calls)
   pub state : after ≡ state_after m s calls

@@ -1,6 +1,8 @@
 use Rattle.std.proofs.Common.{◌≡◌, ◌-◌, ◌<◌, ◌≤◌, length, drop, sym, refl, ap, ◌∙◌, arith}
 use Rattle.std.proofs.lemmas.List.{length-drop}
 use Rattle.std.proofs.lemmas.Bool.{leb-false, leb-true}
+use Rattle.ledger.specs.Calls.{Meets, step}
+use Rattle.ledger.specs.View.{view}
 use Rattle.journal.proofs.Near.{stop_near}
 use Rattle.journal.proofs.Loops.{step_on, ends_whole, ends_wrong, ends_full, reads}
 use Rattle.journal.proofs.Trips.{told}
@@ -54,12 +56,14 @@ calls-preserved g c =
     let h : place < length words = omega (arith, leb-false _ _ (sym c.calls-test.ensures), ap length inv.2) in
     let used = rw inv.2 at c.in-Ok.ensures.read in
     let words_of = rw inv.1 at c.make-answer.ensures.words in
+    let met : Meets (step m (view c.calls.ledger.tables) c.in-Ok.call) _ _
+    = record { answers = refl; leaves = rw inv.1 at c.make-answer.ensures.tables } in
     let encoded = c.make-answer.result.items in
     let n : length encoded ≡ c.answer_len.result = ap length words_of ∙ sym (c.answer_len.ensures m) in
     let fits : length encoded ≤ length c.args.answers.now - c.calls.written =
     omega (arith, n, c.if-answers-written.false, c.calls.auto.answers) in (
-      rw c.len-written.ensures.value (step_on m words _ _ _ _ _ place _ inv.0 c.in-Ok.call _ _ _ encoded _ h used
-          (record { answers = refl; leaves = rw inv.1 at c.make-answer.ensures.tables }) words_of fits (rw c.deref.ensures.0 at c.put.ensures)
+      rw c.len-written.ensures.value (step_on m words _ _ _ _ _ place _ inv.0 c.in-Ok.call _ _ _ encoded _ h used met
+          words_of fits (rw c.deref.ensures.0 at c.put.ensures)
           (omega (arith, fits, c.calls.auto.answers, c.put.auto.answers, inv.0.inside))),
       c.make-answer.ensures.zone ∙ inv.1,
       c.call.ensures.same ∙ inv.2,
