@@ -60,6 +60,7 @@ fn any_overlaps(terms: &[Term], o: Opening) -> bool
 pub fn open(tables: &mut Tables, o: Opening) -> Result<u32, Refusal>
     ensures { Ruled figure (view tables.old) (open_ruling (view tables.old) o) result (view tables.new) }
 {
+    // 5
     let term = opened(tables.day, o).ok_or(Refusal::OutOfRange)?;
     if any_overlaps(&tables.terms, o) {
         return Err(Refusal::Overlap);

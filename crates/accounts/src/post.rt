@@ -21,6 +21,7 @@ pub fn post<Z: RateZone>(tables: &mut Tables, zone: &Z, day: Posting) -> Result<
         (post_ruling (Z.means zone.now).overrun (view tables.old) day) result (view tables.new) }
 {
     let held = plan(tables, &day)?;
+    // 11, by `From<Lack>`
     let owed = owed(zone, &held.term, &day)?;
     book(tables, held, &day, owed)
 }
@@ -29,6 +30,7 @@ pub fn post<Z: RateZone>(tables: &mut Tables, zone: &Z, day: Posting) -> Result<
 fn plan(tables: &Tables, day: &Posting) -> Result<Holding, Refusal>
     ensures { Planned (before_the_price (view tables.now) day.now) (Ready tables.now day.now) result }
 {
+    // 3
     let held = tables.find(day.term)?;
     let term = held.term;
     if term.next > term.contract.last {
@@ -59,6 +61,7 @@ fn test_gas(tables: &Tables, held: &Holding, day: &Posting) -> Result<(), Refusa
         (λ e. (e ≡ GasLimit)
         × (may_bank (account_at (view_accounts tables.now) day.now.term) (net_of day.now) ≡ false)) }
 {
+    // 9, by `From<Fault<GAS_LIMIT>>`
     tables.gas[held.at].plus(&[net_of(day)])?;
     Ok(())
 }
@@ -106,7 +109,9 @@ fn book(tables: &mut Tables, held: Holding, day: &Posting, owed: u64) -> Result<
     requires sum { owed < 2 ^ 62 }
     ensures { Ruled figure (view tables.old) (charging (view tables.old) day.now owed) result (view tables.new) }
 {
+    // 10, by `From<Fault<CHARGE_LIMIT>>`
     enter(&mut tables.lines, held.at, &overrun(owed))?;
+    // never refused: the plan has tested it
     enter(&mut tables.gas, held.at, &[net_of(day)])?;
     tables.terms[held.at] = posted(&held.term);
     Ok(held.term.next)

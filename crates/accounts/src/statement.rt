@@ -12,6 +12,7 @@ pub fn state(tables: &Tables, term: u32) -> Result<StatedTerm, Refusal>
     ensures { Ruled statement (view tables.now) (statement_ruling (view tables.now) term) result
         (view tables.now) }
 {
+    // 3
     let held = tables.find(term)?;
     Ok(StatedTerm {
         term,

@@ -3,6 +3,7 @@
 
 mod limits;
 mod row;
+mod sum;
 mod table;
 
 pub use limits::{CHARGE_LIMIT, GAS_LIMIT};

@@ -16,7 +16,8 @@ abbrev pub said : Reply → Answer
 said (figure n) = Done n
 said (statement t) = Stated t
 
--- The refusals of a call in their order, each with its condition; what it replies where none holds, and the state after.
+-- The refusals of a call in their order, each with its condition; what it replies where none holds, and the state
+-- after.
 pub record Ruling : Type 0 where
   pub refusals : List (Bool × Refusal)
   pub reply : Reply

@@ -28,14 +28,14 @@ answering ws r = record { after = r.after; words = ws ++ r.words; stop = r.stop 
 
 -- A call that is read whole is stopped with 19, at its own place, if its answer does not fit the room that is left;
 -- else it is made, and the rest goes on. A word that is wrong, unknown or missing stops with 1, at its place.
-abbrev pub made : ℕ → ℕ → State → Outcome → (State → ℕ → Ending) → Ending
-made place room s o rest =
+abbrev pub if_it_fits : ℕ → ℕ → State → Outcome → (State → ℕ → Ending) → Ending
+if_it_fits place room s o rest =
     cond (nat_lt room (length (answer_words o.answer))) (stopped s NoRoom place)
     (answering (answer_words o.answer) (rest o.after (room - length (answer_words o.answer))))
 
 abbrev pub go : Meaning → ℕ → ℕ → State → Result (Call × ℕ) ℕ → (ℕ → State → ℕ → Ending) → Ending
 go m place room s (Err at) rest = stopped s BadWord (place + at)
-go m place room s (Ok read) rest = made place room s (step m s read.0) (rest (read.1 - 1))
+go m place room s (Ok read) rest = if_it_fits place room s (step m s read.0) (rest (read.1 - 1))
 
 -- From a place on, with so much room for answers: `skip` words of a call that has been read are passed over first.
 abbrev pub run_from : Meaning → List ℕ → ℕ → ℕ → ℕ → State → Ending

@@ -10,6 +10,9 @@ use book::Allowances;
 use std::alloc::Global;
 use zones::{NorthZone, NotMade, RateZone, north_zone};
 
+// What may be suspended on a day at each point, in m³.
+const NORTH_ALLOWANCE: u32 = 500_000;
+
 pub type NorthLedger = Ledger<NorthZone>;
 
 // A new northern ledger, refused if the price is above 10,000,000.
@@ -20,9 +23,9 @@ pub fn north_ledger(heap: Global, price: u32) -> Result<NorthLedger, NotMade>
 {
     let zone = north_zone(price)?;
     let allowances = Allowances {
-        western: 500_000,
-        dawn: 500_000,
-        ontario: 500_000,
+        western: NORTH_ALLOWANCE,
+        dawn: NORTH_ALLOWANCE,
+        ontario: NORTH_ALLOWANCE,
     };
     Ledger::new(heap, zone, allowances)
 }

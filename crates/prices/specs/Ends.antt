@@ -3,8 +3,8 @@ use Rattle.std.specs.Prelude.{ℕ, ◌-◌, Bool, cond, ◌&&◌, List, length, 
 use Rattle.calendar.specs.Months.{month_at}
 use Rattle.prices.specs.Means.{mean_of}
 use Rattle.prices.specs.Quotes.{Quote}
-use Rattle.prices.specs.Limits.{price_limit, monthly_places}
-use Rattle.calendar.specs.Days.{last_day}
+use Rattle.prices.specs.Limits.{price_limit}
+use Rattle.calendar.specs.Days.{last_day, month_count}
 
 -- An entry above 10,000,000, or past the list, is missing.
 abbrev pub entry_at : List ℕ → ℕ → Option ℕ
@@ -24,7 +24,7 @@ daily_quote start ps = λ point from to. mean_of (daily_price start ps) from to
 
 -- A monthly end has at most 120 prices, the first of January 2024. A day's price is the entry of its month.
 abbrev pub is_monthly : ℕ → Bool
-is_monthly n = nat_le n monthly_places
+is_monthly n = nat_le n month_count
 
 abbrev pub in_month : List ℕ → Option ℕ → Option ℕ
 in_month ps (Some m) = entry_at ps m

@@ -1,14 +1,10 @@
--- The limits of prices and of lists of prices.
+-- The limits of prices, of their totals and of tolls.
 use Rattle.std.specs.Prelude.{ℕ, ◌*◌}
 use Rattle.calendar.specs.Days.{last_day}
 
 -- A price is at most 10,000,000 micros, ten dollars, for a m³.
 abbrev pub price_limit : ℕ
 price_limit = 10000000
-
--- A monthly end has at most 120 prices, one for each month of the calendar.
-abbrev pub monthly_places : ℕ
-monthly_places = 120
 
 -- The total of the prices over the days of a span is at most that of the largest price on every day.
 abbrev pub total_limit : ℕ

@@ -20,7 +20,7 @@ pub use by_point::{ByPoint, Tolls};
 pub use daily::Daily;
 pub use days::{DayPrices, mean};
 pub use laws::laws_stand;
-pub use limits::{MONTHLY_PLACES, PRICE_LIMIT, TOLL_LIMIT};
+pub use limits::{PRICE_LIMIT, TOLL_LIMIT};
 pub use monthly::Monthly;
 pub use point::Point;
 pub use reference::Reference;

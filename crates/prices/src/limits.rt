@@ -1,10 +1,7 @@
-// The limits of prices, of lists of prices and of tolls.
+// The limits of prices and of tolls.
 
 // Ten dollars for a m³, in micros.
 pub const PRICE_LIMIT: u32 = 10_000_000;
-
-// The prices of a monthly end, one for each month of the calendar.
-pub const MONTHLY_PLACES: usize = 120;
 
 // A toll in micros for a m³, above 0 or below it.
 pub const TOLL_LIMIT: i32 = 1_000_000;

@@ -5,9 +5,8 @@ ghost use Rattle.prices.specs.Entries.{monthly_fair};
 
 use crate::days::DayPrices;
 use crate::entry::entry;
-use crate::limits::MONTHLY_PLACES;
 use crate::refused::OutOfRange;
-use calendar::month_of;
+use calendar::{MONTH_COUNT, month_of};
 
 #[derive(Debug, Drop, PartialEq, Eq)]
 pub struct Monthly {
@@ -21,7 +20,7 @@ impl Monthly {
         ensures test { is_ok result ≡ is_monthly (vec_len prices) }
         ensures made { IfOk result (λ s. s.prices ≡ prices) }
     {
-        if prices.len() > MONTHLY_PLACES {
+        if prices.len() > MONTH_COUNT as usize {
             return Err(OutOfRange);
         }
         Ok(Monthly { prices })

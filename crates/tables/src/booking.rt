@@ -5,6 +5,7 @@ ghost use Rattle.amounts.specs.Tables.{Booked, rows_of};
 use amounts::{Fault, Row};
 
 // Adds more at a place of the table; a refused booking writes nothing.
+#[tactic(auto, using(std::proofs::lemmas::List::with_items_is))]
 pub fn enter<const N: usize, const LIMIT: u64>(
     table: &mut Vec<Row<N, LIMIT>>,
     at: usize,

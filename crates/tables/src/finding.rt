@@ -23,6 +23,7 @@ impl Tables {
     }
 
     // The term of a number, with its place.
+    #[tactic(auto, using(crate::proofs::Accounts::read_at))]
     pub fn find(&self, term: u32) -> Result<Holding, Refusal>
         ensures { MatchResult result (Found self.now term)
             (λ e. (e ≡ NoTerm) × (missing (view_accounts self.now) term ≡ true)) }

@@ -15,8 +15,11 @@ abbrev pub north_means : ℕ → Meaning
 north_means price = meaning_of north_band (north_quote price) (north_quote price) (north_quote price)
 
 -- 500,000 may be suspended on a day at each point.
+abbrev pub north_allowance : ℕ
+north_allowance = 500000
+
 abbrev pub north_allowances : Allowances
-north_allowances = record { western = 500000; dawn = 500000; ontario = 500000 }
+north_allowances = record { western = north_allowance; dawn = north_allowance; ontario = north_allowance }
 
 -- It is not made if the price is above 10,000,000, which is refused, or if memory is wanting.
 abbrev pub NorthUnmade : ℕ → NotMade → Type 0
