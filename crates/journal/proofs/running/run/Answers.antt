@@ -1,8 +1,9 @@
 use Rattle.std.proofs.Common.{◌≡◌, ◌-◌, ◌<◌, ◌≤◌, length, drop, sym, refl, ap, ◌∙◌, arith}
 use Rattle.std.proofs.lemmas.List.{length-drop}
 use Rattle.std.proofs.lemmas.Bool.{leb-false, leb-true}
-use Rattle.ledger.specs.Calls.{Meets, step}
-use Rattle.ledger.specs.View.{view}
+use Rattle.book.specs.Rulings.{Meets}
+use Rattle.book.specs.Step.{step}
+use Rattle.tables.specs.View.{view}
 use Rattle.journal.proofs.Near.{stop_near}
 use Rattle.journal.proofs.Loops.{step_on, ends_whole, ends_wrong, ends_full, reads}
 use Rattle.journal.proofs.Trips.{told}
