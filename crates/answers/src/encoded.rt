@@ -1,8 +1,8 @@
 // Answers as words.
-ghost use Rattle.std.specs.Prelude.{◌≡◌, ◌%◌, [], ◌∷◌, ◌++◌};
-ghost use Rattle.arrayvec.specs.ArrayVec.{array_vec_len};
+ghost use Rattle.std.specs.Prelude.{◌≡◌, ◌+◌, ◌%◌, ◌<◌, [], ◌∷◌, ◌++◌};
 ghost use Rattle.answers.specs.Answers.{answer_count};
 ghost use Rattle.words.specs.Kinds.{word};
+ghost use Rattle.words.specs.WordRows.{listed};
 ghost use Rattle.answers.specs.Writing.{signed_word, part_word, line_words, lines_words, answer_words};
 ghost use Rattle.words.specs.declared.kind.Kind.TheVariants.{Figure};
 ghost use Rattle.calls.specs.declared.call.Answer.TheVariants.{Stated};
@@ -13,8 +13,8 @@ use words::{Kind, VALUE_COUNT, word};
 
 // An answer's words: two, or eighteen for a statement.
 pub fn encode(answer: &Answer) -> Encoded
-    ensures words { result.items ≡ answer_words answer.now }
-    ensures count { array_vec_len result ≡ answer_count answer.now }
+    ensures words { listed result ≡ answer_words answer.now }
+    ensures count { result.len ≡ answer_count answer.now }
 {
     match answer {
         Answer::Done(value) => two(Kind::Done, *value, 0),
@@ -26,40 +26,51 @@ pub fn encode(answer: &Answer) -> Encoded
     }
 }
 
+// One word more, behind the others.
+fn push(words: &mut Encoded, word: u32)
+    requires { words.old.len < 18 }
+    ensures words { listed words.new ≡ listed words.old ++ word ∷ [] }
+    ensures len { words.new.len ≡ words.old.len + 1 }
+{
+    words.words[words.len] = word;
+    words.len += 1;
+}
+
 fn two(kind: Kind, value: u32, figure: u32) -> Encoded
-    ensures { result.items ≡ word kind value ∷ word Figure figure ∷ [] }
+    ensures words { listed result ≡ word kind value ∷ word Figure figure ∷ [] }
+    ensures len { result.len ≡ 2 }
 {
     let mut words = Encoded::new();
-    words.push(word(kind, value));
-    words.push(word(Kind::Figure, figure));
+    push(&mut words, word(kind, value));
+    push(&mut words, word(Kind::Figure, figure));
     words
 }
 
 fn statement(stated: &StatedTerm) -> Encoded
-    ensures words { result.items ≡ answer_words (Stated stated.now) }
-    ensures len { array_vec_len result ≡ 18 }
+    ensures words { listed result ≡ answer_words (Stated stated.now) }
+    ensures len { result.len ≡ 18 }
 {
     let mut words = two(Kind::Done, 0, 0);
-    words.push(word(Kind::Number, stated.term));
-    words.push(word(Kind::Number, stated.pool));
-    words.push(word(Kind::Status, u32::from(stated.status)));
-    words.push(word(Kind::Day, stated.next));
-    words.push(signed_word(stated.balance));
-    words.push(word(Kind::Volume, stated.on_offer));
+    push(&mut words, word(Kind::Number, stated.term));
+    push(&mut words, word(Kind::Number, stated.pool));
+    push(&mut words, word(Kind::Status, u32::from(stated.status)));
+    push(&mut words, word(Kind::Day, stated.next));
+    push(&mut words, signed_word(stated.balance));
+    push(&mut words, word(Kind::Volume, stated.on_offer));
     push_lines(&mut words, &stated.lines);
     words
 }
 
 // The lines go behind the first eight words.
 fn push_lines(words: &mut Encoded, lines: &[i64; 5])
-    requires { array_vec_len words.old ≡ 8 }
-    ensures words { words.new.items ≡ words.old.items ++ lines_words lines.now }
-    ensures len { array_vec_len words.new ≡ 18 }
+    requires { words.old.len ≡ 8 }
+    ensures words { listed words.new ≡ listed words.old ++ lines_words lines.now }
+    ensures len { words.new.len ≡ 18 }
 {
     for line in lines {
         let (whole, rest) = line_words(*line);
-        words.push(whole);
-        words.push(rest);
+        push(words, whole);
+        push(words, rest);
     }
 }
 

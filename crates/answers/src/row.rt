@@ -1,5 +1,5 @@
 // A row of an answer's words: as many as there are, in the value itself.
-use arrayvec::ArrayVec;
+use words::WordRow;
 
 // An answer's words.
-pub type Encoded = ArrayVec<u32, 18>;
+pub type Encoded = WordRow<18>;

@@ -7,4 +7,5 @@ pub mod Lists
 pub mod Misreads
 pub mod Reading
 pub mod Shapes
+pub mod WordRows
 pub mod Writing

@@ -1,13 +1,14 @@
 -- Reading calls off words.
 use Rattle.std.specs.Prelude.{◌≡◌, ℕ, ◌+◌, ◌≤◌, cond, List, [], ◌∷◌, length, drop, Some}
 use Rattle.std.specs.Prelude.{None, Ok, Err, Option, Result, ◌==◌, slice_index}
-use Rattle.arrayvec.specs.ArrayVec.{ArrayVec}
 use Rattle.calls.specs.declared.call.Call.{Call}
 use Rattle.calls.specs.declared.call.Call.TheVariants.{Day, Open, Post, Statement}
 use Rattle.words.specs.Kinds.{kind_number, kind_in, value_in}
 use Rattle.words.specs.Shapes.{shape_of}
+use Rattle.words.specs.WordRows.{listed}
 use Rattle.words.specs.declared.kind.Kind.{Kind}
 use Rattle.words.specs.declared.misread.Misread.{Misread}
+use Rattle.words.specs.declared.row.WordRow.{WordRow}
 
 -- The figures of these kinds at the front of the words, or how far in the first wrong or missing word stands.
 abbrev pub further : Result (List ℕ) ℕ → ℕ → Result (List ℕ) ℕ
@@ -82,7 +83,7 @@ pub record Missed (kinds : List Kind) (words : List ℕ) (place : ℕ) (at : ℕ
   pub here : at ≡ place + off
 
 -- The words of these kinds: their values, and the place is past them; or the first that is wrong or missing.
-abbrev pub Taken : List Kind → List ℕ → ℕ → Result (ArrayVec ℕ) Misread → ℕ → Type 0
+abbrev pub Taken : {n : ℕ} → List Kind → List ℕ → ℕ → Result (WordRow n) Misread → ℕ → Type 0
 Taken kinds words place (Ok vs) after =
-    (read_figures kinds (drop place words) ≡ Ok vs.items) × (after ≡ place + length kinds)
+    (read_figures kinds (drop place words) ≡ Ok (listed vs)) × (after ≡ place + length kinds)
 Taken kinds words place (Err e) after = Missed kinds words place e.place

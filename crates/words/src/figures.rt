@@ -2,6 +2,7 @@
 ghost use Rattle.std.specs.Prelude.{◌≡◌, ◌≤◌, length, slice_index};
 ghost use Rattle.words.specs.Reading.{call_of};
 ghost use Rattle.words.specs.Shapes.{call_number, figures_of};
+ghost use Rattle.words.specs.WordRows.{listed};
 
 use crate::row::Figures;
 use calls::{Call, Opening, Posting};
@@ -53,7 +54,7 @@ pub fn number_of(call: &Call) -> u32
 }
 
 pub fn figures_of(call: &Call) -> Figures
-    ensures { result.items ≡ figures_of call.now }
+    ensures { listed result ≡ figures_of call.now }
 {
     match *call {
         Call::Day => Figures::new(),
@@ -66,7 +67,11 @@ pub fn figures_of(call: &Call) -> Figures
 // These figures in a row.
 fn row(figures: &[u32]) -> Figures
     requires { length figures.now ≤ 8 }
-    ensures { result.items ≡ figures.now }
+    ensures { listed result ≡ figures.now }
 {
-    Figures::try_from(figures).unwrap()
+    let mut row = Figures::new();
+    for figure in figures {
+        row.push(*figure);
+    }
+    row
 }

@@ -25,7 +25,7 @@ pub use limits::{JOURNAL_WORDS, VALUE_COUNT};
 pub use misread::Misread;
 pub use packed::{is_of, value_of, word};
 pub use reader::Reader;
-pub use row::Figures;
+pub use row::{Figures, WordRow};
 pub use table::shape;
 pub use unread::Unread;
 pub use writer::{write_call, write_calls};

@@ -2,6 +2,7 @@
 ghost use Rattle.std.specs.Prelude.{◌≡◌, ◌≤◌, [], length};
 ghost use Rattle.std.specs.Option.{unwrap_or};
 ghost use Rattle.words.specs.Shapes.{shape_of, call_number};
+ghost use Rattle.words.specs.WordRows.{listed};
 ghost use Rattle.words.specs.Writing.{call_words, fit};
 
 use crate::figures::{figures_of, number_of};
@@ -21,7 +22,7 @@ pub fn fits(figures: &[u32]) -> bool
 
 // The call word, and then the figures in the order of the call's shape.
 pub fn words_of(call: &Call) -> Written
-    ensures { result.items ≡ call_words call.now }
+    ensures { listed result ≡ call_words call.now }
 {
     let figures = figures_of(call);
     let mut words = Written::new();

@@ -11,7 +11,7 @@ overflow_add-result c =
     let ws = c.args.reader.now.words.now in
     let place = c.args.reader.now.place in
     let e : Some c.in-Some.off ≡ differs (answer_words a) (drop place ws) =
-    c.in-Some.ensures ∙ ap (λ s. differs s c.rest-rest.result.now) (c.deref.ensures.0 ∙ c.encode-words.ensures.words)
+    c.in-Some.ensures ∙ ap (λ s. differs s c.rest-rest.result.now) (c.deref.ensures ∙ c.encode-words.ensures.words)
     ∙ ap (differs (answer_words a)) c.rest-rest.ensures in
     let h : c.in-Some.off ≤ length ws - place =
     omega (arith, differs_within (answer_words a) (drop place ws) c.in-Some.off e, length-drop place ws) in
@@ -23,7 +23,7 @@ returns-clause-read c =
     let ws = c.args.reader.now.words.now in
     let place = c.args.reader.now.place in
     let e : None ≡ differs (answer_words a) (drop place ws) =
-    c.in_default.ensures ∙ ap (λ s. differs s c.rest-rest.result.now) (c.deref.ensures.0
+    c.in_default.ensures ∙ ap (λ s. differs s c.rest-rest.result.now) (c.deref.ensures
     ∙ c.encode-words.ensures.words) ∙ ap (differs (answer_words a)) c.rest-rest.ensures in
     replied c.args.call.now ws place a (c.answer_in-answer.ensures ∙ ap (answer_in c.args.call.now) c.rest-rest.ensures)
-    e c.len.result (c.len.ensures.value ∙ ap length c.encode-words.ensures.words)
+    e c.len.result (c.len.ensures ∙ ap length c.encode-words.ensures.words)

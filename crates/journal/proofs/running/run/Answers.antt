@@ -4,6 +4,7 @@ use Rattle.std.proofs.lemmas.Bool.{leb-false, leb-true}
 use Rattle.book.specs.Rulings.{Meets}
 use Rattle.book.specs.Step.{step}
 use Rattle.tables.specs.View.{view}
+use Rattle.words.specs.WordRows.{listed}
 use Rattle.journal.proofs.Near.{stop_near}
 use Rattle.journal.proofs.Loops.{step_on, ends_whole, ends_wrong, ends_full, reads}
 use Rattle.journal.proofs.Trips.{told}
@@ -59,12 +60,12 @@ calls-preserved g c =
     let words_of = rw inv.1 at c.make-answer.ensures.words in
     let met : Meets (step m (view c.calls.ledger.tables) c.in-Ok.call) _ _
     = record { answers = refl; leaves = rw inv.1 at c.make-answer.ensures.tables } in
-    let encoded = c.make-answer.result.items in
+    let encoded = listed c.make-answer.result in
     let n : length encoded ≡ c.answer_len.result = ap length words_of ∙ sym (c.answer_len.ensures m) in
     let fits : length encoded ≤ length c.args.answers.now - c.calls.written =
     omega (arith, n, c.if-answers-written.false, c.calls.auto.answers) in (
-      rw c.len-written.ensures.value (step_on m words _ _ _ _ _ place _ inv.0 c.in-Ok.call _ _ _ encoded _ h used met
-          words_of fits (rw c.deref.ensures.0 at c.put.ensures)
+      rw c.len-written.ensures (step_on m words _ _ _ _ _ place _ inv.0 c.in-Ok.call _ _ _ encoded _ h used met
+          words_of fits (rw c.deref.ensures at c.put.ensures)
           (omega (arith, fits, c.calls.auto.answers, c.put.auto.answers, inv.0.inside))),
       c.make-answer.ensures.zone ∙ inv.1,
       c.call.ensures.same ∙ inv.2,

@@ -3,6 +3,7 @@ use Rattle.std.proofs.lemmas.Option.{MatchOption-at_some}
 use Rattle.std.proofs.lemmas.Result.{err_from_is_err_and}
 use Rattle.words.specs.Reading.{Missed, read_figures, call_of}
 use Rattle.words.specs.Shapes.{shape_of}
+use Rattle.words.specs.WordRows.{listed}
 use Rattle.words.proofs.Readings.{stopped_figure, used_all}
 use Rattle.words.proofs.reader.Reader.call.Goals as goal
 
@@ -31,13 +32,13 @@ returns-clause-read c =
     c.in_ok-kinds.ensures.ok_part c.shape.ensures.row in
     let first = c.in_ok-number.ensures in
     let read = c.in_ok-figures.ensures.read in
-    let is : c.call_of.result ≡ call_of c.in_ok-number.number c.in_ok-figures.figures.items
-    = c.call_of.ensures ∙ ap (call_of c.in_ok-number.number) c.deref.ensures.0 in
+    let is : c.call_of.result ≡ call_of c.in_ok-number.number (listed c.in_ok-figures.figures)
+    = c.call_of.ensures ∙ ap (call_of c.in_ok-number.number) c.deref.ensures in
     let after : c.figures.new.self.place ≡ c.args.self.now.place + 1 + length c.in_ok-kinds.kinds.now
     = omega (arith, read.1, first.read.1) in
     let figures : read_figures c.in_ok-kinds.kinds.now (drop (c.args.self.now.place + 1) c.args.self.now.words.now)
-    ≡ Ok c.in_ok-figures.figures.items
+    ≡ Ok (listed c.in_ok-figures.figures)
     = sym (ap (λ q. read_figures c.in_ok-kinds.kinds.now (drop q c.value.new.self.words.now)) first.read.1
     ∙ ap (λ s. read_figures c.in_ok-kinds.kinds.now (drop (c.args.self.now.place + 1) s)) first.same) ∙ read.0 in
     rw (is, after) (used_all c.args.self.now.words.now c.args.self.now.place c.in_ok-number.number first.read.0
-    c.in_ok-kinds.kinds.now shape c.in_ok-figures.figures.items figures)
+    c.in_ok-kinds.kinds.now shape (listed c.in_ok-figures.figures) figures)
