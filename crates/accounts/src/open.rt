@@ -9,7 +9,7 @@ ghost use Rattle.tables.specs.View.{view};
 ghost use Rattle.accounts.specs.Plans.{term_overlaps};
 
 use balancing::{MDV_LIMIT, TERM_DAYS};
-use book::{Contract, POOL_LIMIT, TERM_ENDS, TERM_PLACES};
+use book::{Contract, POOL_LIMIT, TERM_ENDS};
 use calls::{Opening, Refusal};
 use prices::Point;
 use tables::{Tables, Term};
@@ -65,8 +65,6 @@ pub fn open(tables: &mut Tables, o: Opening) -> Result<u32, Refusal>
     if any_overlaps(&tables.terms, o) {
         return Err(Refusal::Overlap);
     }
-    if tables.terms.len() >= TERM_PLACES {
-        return Err(Refusal::Full);
-    }
-    Ok(tables.add(term))
+    // 6
+    tables.add(term)
 }

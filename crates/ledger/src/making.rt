@@ -6,7 +6,7 @@ ghost use Rattle.ledger.specs.Making.{Unmade};
 ghost use Rattle.tables.specs.View.{view};
 
 use crate::ledger::Ledger;
-use book::{Allowances, allowed};
+use book::Allowances;
 use calls::Refusal;
 use std::alloc::Global;
 use tables::Tables;
@@ -19,10 +19,9 @@ impl<Z: Drop> Ledger<Z> {
             (λ l. (allowed allowances ≡ true) × (view l.tables ≡ new_book allowances) × (l.zone ≡ zone))
             (Unmade allowances) }
     {
-        if !allowed(allowances) {
-            return Err(NotMade::Refused(Refusal::OutOfRange));
+        match Tables::new(heap, allowances)? {
+            Some(tables) => Ok(Ledger { tables, zone }),
+            None => Err(NotMade::Refused(Refusal::OutOfRange)),
         }
-        let tables = Tables::new(heap, allowances)?;
-        Ok(Ledger { tables, zone })
     }
 }
