@@ -1,11 +1,15 @@
 // The daily end: a price for each day from a starting day on.
 ghost use Rattle.std.specs.Prelude.{◌≡◌, true, is_ok, IfOk, vec_len};
-ghost use Rattle.prices.specs.Ends.{is_daily, daily_price};
+ghost use Rattle.prices.specs.Ends.{is_daily, daily_price, daily_quote};
 ghost use Rattle.prices.specs.Entries.{daily_fair};
+ghost use Rattle.prices.specs.MeansLemmas.{mean_fair};
 
-use crate::days::DayPrices;
+use crate::days::{DayPrices, mean};
 use crate::entry::entry;
+use crate::point::Point;
 use crate::refused::OutOfRange;
+use crate::source::{Lack, PriceSource};
+use crate::span::Span;
 use calendar::LAST_DAY;
 
 #[derive(Debug, Drop, PartialEq, Eq)]
@@ -34,6 +38,21 @@ impl DayPrices for Daily {
     ghost fair = { λ s. daily_fair s.start s.prices.items };
 
     fn on(&self, day: u32) -> Option<u32> {
-        entry(&self.prices, day.checked_sub(self.start)?)
+        if day < self.start {
+            return None;
+        }
+        entry(&self.prices, day - self.start)
+    }
+}
+
+// Kept: a promise needs it: one implementation for all of `DayPrices` would leave a caller's type none of its own.
+impl PriceSource for Daily {
+    ghost quote = { λ s. daily_quote s.start s.prices.items };
+
+    ghost fair = { λ s _ from to low forward high.
+        mean_fair _ from to low forward high (daily_fair s.start s.prices.items) };
+
+    fn price(&self, _point: Point, span: Span) -> Result<u32, Lack> {
+        mean(self, span)
     }
 }

@@ -1,11 +1,15 @@
 // The monthly end: a price for each month from January 2024 on.
 ghost use Rattle.std.specs.Prelude.{◌≡◌, true, is_ok, IfOk, vec_len};
-ghost use Rattle.prices.specs.Ends.{is_monthly, monthly_price};
+ghost use Rattle.prices.specs.Ends.{is_monthly, monthly_price, monthly_quote};
 ghost use Rattle.prices.specs.Entries.{monthly_fair};
+ghost use Rattle.prices.specs.MeansLemmas.{mean_fair};
 
-use crate::days::DayPrices;
+use crate::days::{DayPrices, mean};
 use crate::entry::entry;
+use crate::point::Point;
 use crate::refused::OutOfRange;
+use crate::source::{Lack, PriceSource};
+use crate::span::Span;
 use calendar::{MONTH_COUNT, month_of};
 
 #[derive(Debug, Drop, PartialEq, Eq)]
@@ -34,5 +38,16 @@ impl DayPrices for Monthly {
 
     fn on(&self, day: u32) -> Option<u32> {
         entry(&self.prices, month_of(day)?)
+    }
+}
+
+// Kept: a promise needs it, as at `Daily`.
+impl PriceSource for Monthly {
+    ghost quote = { λ s. monthly_quote s.prices.items };
+
+    ghost fair = { λ s _ from to low forward high. mean_fair _ from to low forward high (monthly_fair s.prices.items) };
+
+    fn price(&self, _point: Point, span: Span) -> Result<u32, Lack> {
+        mean(self, span)
     }
 }
