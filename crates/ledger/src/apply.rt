@@ -14,6 +14,7 @@ use zones::RateZone;
 
 impl<Z: RateZone> Ledger<Z> {
     // The call, one row for each.
+    #[tactic(auto, using(runs::proofs::Firsts::done_meets, runs::proofs::Firsts::refused_meets))]
     fn make(&mut self, call: Call) -> Result<Answer, Refusal>
         ensures call { Meets
             (step (Z.means self.old.zone) (view self.old.tables) call)

@@ -44,6 +44,7 @@ fn run_priced(heap: Global, price: u32, journal: &[u32]) -> Result<Output, NotMa
 }
 
 // The price in front of a journal, and the journal.
+#[tactic(auto, using(crate::proofs::Outputs::behind))]
 fn priced(input: &[u32]) -> Option<(u32, &[u32])>
     ensures run { MatchOption result (north_run input.now ≡ no_price)
         (λ p. north_run input.now ≡ priced_run p.0 p.1.now) }
