@@ -78,14 +78,13 @@ word_cut (a ∷ (b ∷ (c ∷ []))) h k = refl
 word_cut (a ∷ (b ∷ (c ∷ (d ∷ rest)))) h k = absurd (omega (arith, k))
 
 -- a word's four bytes
-bytes : (w : ℕ) → w < 2 ^ 32 → to_le_bytes w32 w ≡ four w
+pub bytes : (w : ℕ) → w < 2 ^ 32 → to_le_bytes w32 w ≡ four w
 bytes w h = let e : w / 16777216 % 256 ≡ w / 16777216 = omega arith in rw e refl
 
-pub byte_more : (bs ws more : List ℕ) (i : ℕ) → i < length ws → get_or ws i 0 < 2 ^ 32
-    → more ≡ to_le_bytes w32 (get_or ws i 0) → bs ++ packed (drop i ws) ≡ packed ws
-    → (bs ++ more) ++ packed (drop (i + 1) ws) ≡ packed ws
-byte_more bs ws more i h fits e inv =
-    rw (e, bytes (get_or ws i 0) fits) (append_assoc bs (four (get_or ws i 0)) (packed (drop (i + 1) ws))
+pub byte_more : (bs ws more : List ℕ) (i : ℕ) → i < length ws → more ≡ four (get_or ws i 0)
+    → bs ++ packed (drop i ws) ≡ packed ws → (bs ++ more) ++ packed (drop (i + 1) ws) ≡ packed ws
+byte_more bs ws more i h e inv =
+    rw e (append_assoc bs (four (get_or ws i 0)) (packed (drop (i + 1) ws))
     ∙ ap (λ x. bs ++ x) (sym (at_drop_more packed ws i 0 h)) ∙ inv)
 
 pub bytes_all : (bs ws : List ℕ) (i : ℕ) → length ws ≤ i → bs ++ packed (drop i ws) ≡ packed ws → bs ≡ packed ws
